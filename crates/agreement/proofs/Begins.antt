@@ -62,11 +62,11 @@ begin-inv M w sch g b ep log u t z k G nf E old now = record {
 -- a node at an epoch's start
 pub record First (w : ℕ) (sch : ℕ → Schedule) (i : ℕ) (n : Node) : Type 0 where
   pub fine : Fine w sch (n .version) (n .schedule)
-  pub Ie : n .epoch .met ≡ 0
+  pub Ie : n .epoch .interactions ≡ 0
   pub upd : n .epoch .updated ≡ false
 
 pub first : {w : ℕ} {sch : ℕ → Schedule} {i : ℕ} {n : Node} → Begun n → Fine w sch (n .version) (n .schedule) → First w sch i n
-first b f = record { fine = f; Ie = ap (λ (e : Epoch). e .met) (b .epoch); upd = ap (λ (e : Epoch). e .updated) (b .epoch) }
+first b f = record { fine = f; Ie = ap (λ (e : Epoch). e .interactions) (b .epoch); upd = ap (λ (e : Epoch). e .updated) (b .epoch) }
 
 -- a site of such nodes: the epoch's flags are theirs
 pub first-inv : (w : ℕ) (sch : ℕ → Schedule) (b : Site) (ep : ℕ) (log : List Determination) → b .config .split ≡ 0 → b .negotiates ≡ true

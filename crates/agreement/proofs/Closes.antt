@@ -131,7 +131,8 @@ module _ (f : Config) (here : ℕ) (M : ℕ → ℕ) (w : ℕ) (sch : ℕ → Sc
           upd = mark-ok;
         }) quiet
 
-    fin-right : (Tied M i (n .epoch .met) × (In Q i → ⊥)) ⊎ ((((n .version ≡ 0) ⊎ (n .version ≡ x)) × (n .schedule ≡ sch (n .version)))
+    fin-right : (Tied M i (n .epoch .interactions) × (In Q i → ⊥)) ⊎
+        ((((n .version ≡ 0) ⊎ (n .version ≡ x)) × (n .schedule ≡ sch (n .version)))
         ⊎ ((n .version ≡ suc x) × (n .schedule ≡ new)))
     fin-right = either (in? Q i)
         (λ h. inr (inl (inr (A .stage .ver h), A .stage .fine .sched)))

@@ -22,7 +22,7 @@ want-core n d = let h = wants n d in λ j. record {
   v = h .version j;
   S = h .schedule j;
   req = h .request j;
-  Ie = h .epoch j .met;
+  Ie = h .epoch j .interactions;
   upd = h .epoch j .updated;
   new = h .epoch j .determined;
 }
@@ -31,12 +31,12 @@ want-core n d = let h = wants n d in λ j. record {
 abbrev pub withMet : Core → ℕ → Core
 withMet n e = record { v = n .v; S = n .S; req = n .req; Ie = e; upd = n .upd; new = n .new }
 
-pub hear-core : (n : Node) (q : Packet) → coreOf (heardNode n q) ≡ withMet (coreOf n) (heardNode n q .epoch .met)
+pub hear-core : (n : Node) (q : Packet) → coreOf (heardNode n q) ≡ withMet (coreOf n) (heardNode n q .epoch .interactions)
 hear-core n q = let h = hears n q in λ j. record {
   v = h .version j;
   S = h .schedule j;
   req = h .request j;
-  Ie = heardNode n q .epoch .met;
+  Ie = heardNode n q .epoch .interactions;
   upd = h .updated j;
   new = h .determined j;
 }
@@ -47,7 +47,7 @@ pub take-core : (n x : Node) → coreOf (takenNode n (sentBy x))
       v = x .version;
       S = x .schedule;
       req = takenNode n (sentBy x) .request;
-      Ie = takenNode n (sentBy x) .epoch .met;
+      Ie = takenNode n (sentBy x) .epoch .interactions;
       upd = takenNode n (sentBy x) .epoch .updated;
       new = takenNode n (sentBy x) .epoch .determined;
     }
@@ -56,7 +56,7 @@ take-core n x =
     let m = takenNode n (sentBy x) in
     let v = h .version ∙ carries x .version in
     let S = h .schedule ∙ carries x .schedule in
-    λ j. record { v = v j; S = S j; req = m .request; Ie = m .epoch .met; upd = m .epoch .updated; new = m .epoch .determined }
+    λ j. record { v = v j; S = S j; req = m .request; Ie = m .epoch .interactions; upd = m .epoch .updated; new = m .epoch .determined }
 
 -- an end that isn't the epoch's last changes nothing of it
 pub end-core : (n : Node) → isLast (n .setup .config) (n .epoch .place) ≡ false → coreOf (endedNode n) ≡ coreOf n
@@ -64,14 +64,21 @@ end-core n l = let h = ends n l in λ j. record {
   v = h .version j;
   S = h .schedule j;
   req = h .request j;
-  Ie = h .met j;
+  Ie = h .interactions j;
   upd = h .updated j;
   new = h .determined j;
 }
 
 -- a close that raises no version leaves version and schedule, with the mark that it has set
 abbrev pub marked : Node → Core
-marked n = record { v = n .version; S = n .schedule; req = n .request; Ie = n .epoch .met; upd = updatedBy n; new = determinedBy n }
+marked n = record {
+  v = n .version;
+  S = n .schedule;
+  req = n .request;
+  Ie = n .epoch .interactions;
+  upd = updatedBy n;
+  new = determinedBy n;
+}
 
 module _ (n : Node) where
   pub stayed-core : due n ≡ false → coreOf (closedNode n) ≡ marked n
@@ -82,7 +89,7 @@ module _ (n : Node) where
       let r = c .request ∙ skip (due n) _ _ _ d refl in
       let u = c .updated ∙ skip (due n) _ _ _ d refl in
       let t = c .determined ∙ skip (due n) _ _ _ d refl in
-      λ j. record { v = v j; S = S j; req = r j; Ie = c .met j; upd = u j; new = t j }
+      λ j. record { v = v j; S = S j; req = r j; Ie = c .interactions j; upd = u j; new = t j }
 
   pub stayed-sends : due n ≡ false → sending (closedNode n .phase) ≡ repeats n
   stayed-sends d = ap sending (closes-so n .phase) ∙ ap (λ (b : Bool). b || repeats n) d
@@ -93,7 +100,7 @@ module _ (n : Node) where
         v = successor (n .version);
         S = determinedBy n;
         req = closedNode n .request;
-        Ie = n .epoch .met;
+        Ie = n .epoch .interactions;
         upd = closedNode n .epoch .updated;
         new = closedNode n .epoch .determined;
       }
@@ -102,7 +109,7 @@ module _ (n : Node) where
       let m = closedNode n in
       let v = c .version ∙ hit (due n) _ _ d in
       let S = c .schedule ∙ hit (due n) _ _ d in
-      λ j. record { v = v j; S = S j; req = m .request; Ie = c .met j; upd = m .epoch .updated; new = m .epoch .determined }
+      λ j. record { v = v j; S = S j; req = m .request; Ie = c .interactions j; upd = m .epoch .updated; new = m .epoch .determined }
 
   pub raised-sends : due n ≡ true → sending (closedNode n .phase) ≡ true
   raised-sends d = ap sending (closes-so n .phase) ∙ ap (λ (b : Bool). b || repeats n) d

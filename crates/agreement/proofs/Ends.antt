@@ -100,10 +100,11 @@ fin? (fin Q x new) = inr (Q, x, new, refl)
 
 -- a node that keeps its schedule is in Q or has met a node of Q: what it counts, itself included, is more than half, and so is Q
 pub kept-meets : {f : Config} {here : ℕ} (M : ℕ → ℕ) (Q i : ℕ) (n : Node) → f .split ≡ 0 → Steady f false here i n → expires n ≡ false
-    → IsQ (f .nodes) M Q → Tied M i (n .epoch .met) → (In Q i → ⊥) → ⊥
+    → IsQ (f .nodes) M Q → Tied M i (n .epoch .interactions) → (In Q i → ⊥) → ⊥
 kept-meets {f} M Q i n w st e q t far =
-    let o = rw (← steady-number st) at (in-self (f .nodes) (n .epoch .met) i (steady-small st) (steady-index st) (steady-met st)) in
-    let X = withSelf (n .epoch .met) (n .setup .node) in
+    let o = rw (← steady-number st) at
+    (in-self (f .nodes) (n .epoch .interactions) i (steady-small st) (steady-index st) (steady-met st)) in
+    let X = withSelf (n .epoch .interactions) (n .setup .node) in
     let h : f .nodes < 2 * size X = subst (λ (x : ℕ). f .nodes < 2 * size x) (counts-self n)
     (rw (ap (λ (u : Setup). u .config .nodes) (st .setup)) at (kept-most n (ap (λ (u : Setup). u .config .split) (st .setup) ∙ w) e)) in
     omega (

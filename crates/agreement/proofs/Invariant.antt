@@ -13,13 +13,13 @@ use Rattle.traces.specs.Past.{Determination, Past}
 use Rattle.traces.proofs.Sets.{In}
 use Rattle.traces.proofs.Members.{member}
 use Rattle.traces.proofs.Starts.{Flagged}
-use Rattle.agreement.specs.Demand.{Grounded, SameDetermination}
+use Rattle.agreement.specs.Demand.{Justified, SameDetermination}
 use Rattle.agreement.proofs.Members.{Each}
 use Rattle.agreement.proofs.Stages.{Stage, idle, rep, dec, fin, IsFin, Compat, Lives, Glob, Base}
 
 -- the determinations so far, among N nodes
 pub record LogOk (N : ℕ) (log : List Determination) : Type 0 where
-  pub each : (d : Determination) → List·Memᴰ d log → Grounded N d
+  pub each : (d : Determination) → List·Memᴰ d log → Justified N d
   pub pair : (d e : Determination) → List·Memᴰ d log → List·Memᴰ e log → d .epoch ≡ e .epoch → SameDetermination d e
 
 -- a determination is the one of the stage

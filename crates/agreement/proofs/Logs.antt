@@ -26,7 +26,7 @@ use Rattle.traces.proofs.Members.{member, live-up, awake}
 use Rattle.traces.proofs.Steady.{steady-setup, steady-last}
 use Rattle.traces.proofs.Logs.{new-of}
 use Rattle.traces.proofs.Always.{Kept}
-use Rattle.agreement.specs.Demand.{Grounded, SameDetermination}
+use Rattle.agreement.specs.Demand.{Justified, SameDetermination}
 use Rattle.agreement.proofs.Members.{each-at, Miss}
 use Rattle.agreement.proofs.Stages.{Stage, idle, rep, dec, fin, IsFin, Closing, Glob, Base}
 use Rattle.agreement.proofs.Invariant.{LogOk, Matches, Inv}
@@ -54,7 +54,7 @@ shut-match (fin Q x new) l d m = m
 -- a log and what a close adds, all of the epoch's in one stage
 module _ (N : ℕ) (g : Stage) (k : IsFin g → ⊥) (ep : ℕ) (log new : List Determination) (old : LogOk N log)
     (now : (d : Determination) → List·Memᴰ d log → d .epoch ≡ ep → Matches g d)
-    (adds : (d : Determination) → List·Memᴰ d new → (d .epoch ≡ ep) × Matches g d × Grounded N d) where
+    (adds : (d : Determination) → List·Memᴰ d new → (d .epoch ≡ ep) × Matches g d × Justified N d) where
   more-now : (d : Determination) → List·Memᴰ d (log ++ new) → d .epoch ≡ ep → Matches g d
   more-now d m e = either (List·Memᴰ·append-cases log m) (λ p. now d p e) (λ p. adds d p .1)
 
@@ -71,7 +71,7 @@ module _ (f : Config) (here : ℕ) (M : ℕ → ℕ) (w : ℕ) (sch : ℕ → Sc
   -- in the stage made ready, what determines now is what the stage says
   fits-stage : (g : Stage) → (IsFin g → ⊥) → Glob M w sch f g → Base M w sch (past .start) g → (i : ℕ) (n : Node)
       → Closing f here M w sch g (past .start) i n → test g n ≡ false → determines n ≡ true
-      → Matches g (determination past n) × Grounded (f .nodes) (determination past n)
+      → Matches g (determination past n) × Justified (f .nodes) (determination past n)
   fits-stage idle k G B i n A t y = clash _ (determines-tests n y .0) t
   fits-stage (rep Q x s) k G B i n A t y = clash _ y t
   fits-stage (fin Q x new) k G B i n A t y = absurd (k tt)
@@ -101,7 +101,7 @@ module _ (f : Config) (here : ℕ) (M : ℕ → ℕ) (w : ℕ) (sch : ℕ → Sc
 
   adds-of : (g : Stage) (k : IsFin g → ⊥) (G : Glob M w sch f g) (nodes : List Member) (E : All f here M w sch (past .start) g nodes)
       (B : Base M w sch (past .start) g) (O : (i : ℕ) → Miss (test g) (getD nodes i nobody)) (d : Determination)
-      → List·Memᴰ d (determinedAt past nodes) → (d .epoch ≡ past .epoch) × Matches g d × Grounded (f .nodes) d
+      → List·Memᴰ d (determinedAt past nodes) → (d .epoch ≡ past .epoch) × Matches g d × Justified (f .nodes) d
   adds-of g k G nodes E B O d m =
       let x = new-of past nodes d m in
       let t = fits-stage g k G B (x .i) (getD nodes (x .i) nobody .node) (E (x .i) .live (x .live)) (O (x .i) .no (x .live)) (x .yes) in

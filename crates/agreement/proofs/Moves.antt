@@ -93,15 +93,15 @@ tie-more M w sch (fin Q x new) i n e f A = record { right = either (A .right) (�
 
 -- by a packet whose sender has gathered what was so at the round's start
 tie-hear : (N : ℕ) (M : ℕ → ℕ) (b : Site) (i : ℕ) (n : Node) (q : Packet) → n .setup .node - 1 ≡ i → Good N (startOf M b) (viewIn q)
-    → Tied M i (n .epoch .met) → Tied M i (heardNode n q .epoch .met)
+    → Tied M i (n .epoch .interactions) → Tied M i (heardNode n q .epoch .interactions)
 tie-hear N M b i n q k Q t = either (met? (merges n q))
     (λ e. let o : In (q .flags) i = rw k at (in-number (q .flags) (n .setup .node) (merges-in n q e .1)) in rw
-    (hears n q .met ∙ hit (merges n q) _ _ e) (joined o))
-    (λ e. rw (hears n q .met ∙ skip (merges n q) _ _ _ e refl) t)
+    (hears n q .interactions ∙ hit (merges n q) _ _ e) (joined o))
+    (λ e. rw (hears n q .interactions ∙ skip (merges n q) _ _ _ e refl) t)
   where
-    joined : In (q .flags) i → Tied M i (bitOr (n .epoch .met) (requesters (q .requests)))
+    joined : In (q .flags) i → Tied M i (bitOr (n .epoch .interactions) (requesters (q .requests)))
     joined o = record {
-      back = λ C h x. either (in-or (n .epoch .met) (requesters (q .requests)) h) (λ p. t .back C p x)
+      back = λ C h x. either (in-or (n .epoch .interactions) (requesters (q .requests)) h) (λ p. t .back C p x)
           (λ p. Q .reach C (Q .conn C (in-known (q .requests) _ (Q .tidy) p .1) (Q .mine .1) x) o);
     }
 
@@ -113,7 +113,7 @@ keep-hear {past} {s} j q I l t k Q =
     let n = memberAt s j .node in
     let h = hears n q in
     let A = I .each (j - 1) .live l in
-    let e = heardNode n q .epoch .met in
+    let e = heardNode n q .epoch .interactions in
     put-inv j (withNode (memberAt s j) (heardNode n q)) I (record {
       live = λ _.
           lives-at (withMet (coreOf n) e) (sending (n .phase)) (h .flags ∙ A .flags) (hear-core n q) (ap sending (h .phase))

@@ -13,7 +13,7 @@ use Rattle.node.specs.Model.{Node}
 use Rattle.site.specs.Members.{memberAt, isLive}
 use Rattle.site.specs.Model.{Site}
 use Rattle.traces.specs.Past.{Determination, Past}
-use Rattle.agreement.specs.Demand.{Agree, Agreement, Grounded, SameDetermination}
+use Rattle.agreement.specs.Demand.{Agree, Agreement, Justified, SameDetermination}
 use Rattle.agreement.proofs.Stages.{Compat, Fine}
 use Rattle.agreement.proofs.Invariant.{Inv}
 use Rattle.agreement.proofs.Ends.{fine-of}
@@ -62,8 +62,8 @@ pub agree : (past : Past) (s : Site) → Inv past s → s .negotiates ≡ true �
 agree past s I t i j li lj p q = fine-agree (I .w) (I .sch) (I .comp) (memberAt s i .node) (memberAt s j .node) p q
     (fine-at past s I t i li) (fine-at past s I t j lj)
 
-pub grounded : (past : Past) (s : Site) → Inv past s → (d : Determination) → List·Memᴰ d (past .log) → Grounded (s .config .nodes) d
-grounded past s I d m = I .old .each d m
+pub justified : (past : Past) (s : Site) → Inv past s → (d : Determination) → List·Memᴰ d (past .log) → Justified (s .config .nodes) d
+justified past s I d m = I .old .each d m
 
 pub unique : (past : Past) (s : Site) → Inv past s → (d e : Determination) → List·Memᴰ d (past .log) → List·Memᴰ e (past .log)
     → d .epoch ≡ e .epoch → SameDetermination d e

@@ -57,7 +57,7 @@ coreOf n = record {
   v = n .version;
   S = n .schedule;
   req = n .request;
-  Ie = n .epoch .met;
+  Ie = n .epoch .interactions;
   upd = n .epoch .updated;
   new = n .epoch .determined;
 }

@@ -11,11 +11,11 @@ use Rattle.node.specs.Figures.{isWaiting}
 use Rattle.node.specs.declared.Answer.the-variants.{Done}
 use Rattle.node.proofs.Answers.{done-is}
 use Rattle.node.proofs.Made.{restarted}
-use Rattle.site.specs.Members.{setupOf, channelOf, memberAt, downMember}
+use Rattle.site.specs.Members.{setupOf, headerOf, memberAt, downMember}
 use Rattle.site.specs.Load.{loadAnswer}
 use Rattle.site.specs.Answers.{answerOf}
 use Rattle.site.specs.Steps.{sentSite, takenSite, wantedSite, crashedSite, restartedMember, restartedSite, nextSite, siteAfter}
-use Rattle.site.specs.Run.{World, after, run}
+use Rattle.site.specs.Run.{RunState, after, run}
 use Rattle.node.specs.declared.Config.{Config}
 use Rattle.site.specs.declared.Table.{Table}
 use Rattle.site.specs.Model.{Site}
@@ -30,13 +30,13 @@ use Rattle.traces.proofs.Steady.{steady-number}
 use Rattle.traces.proofs.Sound.{noPacket, hear-is}
 use Rattle.traces.proofs.Always as traces
 use Rattle.traces.proofs.Always.{Kept}
-use Rattle.agreement.specs.Demand.{Grounded, Holds}
+use Rattle.agreement.specs.Demand.{Justified, Holds}
 use Rattle.agreement.proofs.Invariant.{Inv}
 use Rattle.agreement.proofs.Moves.{keep-none, keep-want, keep-hear, keep-take}
 use Rattle.agreement.proofs.Logs.{keep-close}
 use Rattle.agreement.proofs.Ends.{keep-end}
 use Rattle.agreement.proofs.Begins.{load-inv}
-use Rattle.agreement.proofs.Results.{agree, grounded, unique}
+use Rattle.agreement.proofs.Results.{agree, justified, unique}
 
 -- what holds after each event: what every site keeps, and the invariant
 pub record Holding (f : Config) (past : Past) (s : Site) (area : List ℕ) : Type 1 where
@@ -86,11 +86,11 @@ accept {s = s} {area = area} End h I d = keep-end (h .sound) I (end-accepted s (
 accept (Want j x) h I d = keep-want j x I
 accept {s = s} (Crash j) h I d = keep-none j (downMember (s .config) j) (down (downMember (s .config) j) refl) I
 accept {s = s} (Restart j flags) h I d =
-    let m = restartedMember (channelOf s) j flags in
+    let m = restartedMember (headerOf s) j flags in
     keep-none j m (asleep m (ap isWaiting (restarted (setupOf (s .config) j) flags (s .place) 0 .phase))) I
 
 -- each event does, refused or not
-pub step : {f : Config} {past : Past} (w : World) (e : Event) → Holding f past (w .site) (w .area)
+pub step : {f : Config} {past : Past} (w : RunState) (e : Event) → Holding f past (w .site) (w .area)
     → Holding f (pastAfter past w e) (after w e .site) (after w e .area)
 unfolding pastAfter siteAfter
 step {f} {past} w e h = record { kept = traces.step w e (h .kept); inv = go (isDone (answerOf (w .site) (w .area) e)) refl }
@@ -102,7 +102,7 @@ step {f} {past} w e h = record { kept = traces.step w e (h .kept); inv = go (isD
     go false d = h .inv
 
 -- and so does each list of events
-steps : {f : Config} {past : Past} (w : World) (es : List Event) → Holding f past (w .site) (w .area)
+steps : {f : Config} {past : Past} (w : RunState) (es : List Event) → Holding f past (w .site) (w .area)
     → Holding f (trace past w es) (run w es .site) (run w es .area)
 unfolding trace run
 steps w [] h = h
@@ -122,7 +122,7 @@ holds =
           let N : reached f t area es .site .config .nodes ≡ f .nodes = ap (λ (x : Config). x .nodes) (h .kept .config) in
           record {
             agreement = agree _ _ (h .inv);
-            grounded = λ x m. subst (λ (n : ℕ). Grounded n x) N (grounded _ _ (h .inv) x m);
+            justified = λ x m. subst (λ (n : ℕ). Justified n x) N (justified _ _ (h .inv) x m);
             unique = unique _ _ (h .inv);
           };
     }

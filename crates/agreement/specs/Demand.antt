@@ -49,7 +49,7 @@ pub record Held (start : Site) (j r v : ℕ) : Type 0 where
 
 -- a determined version rests on requests of a majority of the N nodes; each node held that request at the round's start, at the version
 -- just below
-pub record Grounded (N : ℕ) (d : Determination) : Type 0 where
+pub record Justified (N : ℕ) (d : Determination) : Type 0 where
   pub most : N < 2 * size (d .nodes)
   pub held : (j : ℕ) → isIn (d .nodes) j ≡ true → Held (d .start) j (entryOf (d .requests) j) (d .version)
 
@@ -73,7 +73,7 @@ pub record Demand3 (f : Config) (t : Table) (area : List ℕ) (es : List Event) 
   -- where the list ends in negotiation
   pub agreement : final f t area es .negotiates ≡ true → Agreement (final f t area es)
   -- every determination of the list
-  pub grounded : (d : Determination) → List·Memᴰ d (determinations f t area es) → Grounded (f .nodes) d
+  pub justified : (d : Determination) → List·Memᴰ d (determinations f t area es) → Justified (f .nodes) d
   -- any two determinations of one epoch, at the same close or not
   pub unique : (d e : Determination) → List·Memᴰ d (determinations f t area es) → List·Memᴰ e (determinations f t area es)
       → d .epoch ≡ e .epoch → SameDetermination d e

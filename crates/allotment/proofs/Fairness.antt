@@ -18,7 +18,8 @@ use Rattle.allotment.specs.Model.{Schedule}
 use Rattle.allotment.specs.declared.Deal.{Deal}
 use Rattle.allotment.specs.Allotment.{Draft}
 use Rattle.allotment.specs.Allotment.{topRequest, ownersOf, ownerOf, scheduleOf, asks, dealOne, dealRound, undealt, dealt, targets}
-use Rattle.allotment.specs.Allotment.{given, lacks, keepOne, blank, kept, chosen, giveTo, fillOne, filled, allotted, next, count}
+use Rattle.allotment.specs.Allotment.{given, belowTarget, keepOne, blank, kept, chosen, giveTo, fillOne, filled, allotted, next}
+use Rattle.allotment.specs.Allotment.{count}
 use Rattle.allotment.specs.Allotment.{Fairness}
 use Rattle.allotment.proofs.Laws.{DraftOk, chosen-least, blank-sound, keep-step, fill-step, keeps-on, full-at, total-zeros, Fair}
 use Rattle.allotment.proofs.Laws.{fair-step, ask-past, length-targets, target-ask, target-member, target-past, targets-total}
@@ -34,20 +35,20 @@ module _ (target old : List ℕ) (K k : ℕ) (w : length target ≡ 32) (owned :
   unfolding keepOne
   keep-hers h i d l s = (
     keep-step target old K w i d l (s .0),
-    λ m. by-test (λ x. getD (x .owners) k 0 ≡ getD old k 0) (ltb i K && ltb 0 o && lacks target d o) (given d i o) d
+    λ m. by-test (λ x. getD (x .owners) k 0 ≡ getD old k 0) (ltb i K && ltb 0 o && belowTarget target d o) (given d i o) d
         (λ e. same-or-not k i
         (λ z. ap (λ (x : ℕ). getD (set (d .owners) i o) x 0) z ∙ getD-set-same (d .owners) i o 0 (omega (arith, s .0 .long))
         ∙ ap (λ (x : ℕ). getD old x 0) (sym z))
         (λ z. getD-set-other (d .owners) i k o 0 z ∙ s .1 (omega (arith, z))))
         (λ e. same-or-not k i
-        (λ z. clash (ltb i K && ltb 0 o && lacks target d o) (taken z) e)
+        (λ z. clash (ltb i K && ltb 0 o && belowTarget target d o) (taken z) e)
         (λ z. s .1 (omega (arith, z)))),
   )
     where
       o : ℕ
       o = getD old i 0
 
-      taken : k ≡ i → (ltb i K && ltb 0 o && lacks target d o) ≡ true
+      taken : k ≡ i → (ltb i K && ltb 0 o && belowTarget target d o) ≡ true
       taken z =
           let n : 0 < o = subst (λ (x : ℕ). 0 < getD old x 0) z owned in
           let f : count o old ≤ getD target (o - 1) 0 = subst
@@ -80,7 +81,7 @@ module _ (target old : List ℕ) (K k : ℕ) (w : length target ≡ 32) (owned :
 -- a slot k that was free stays free only where no node lacks one
 module _ (target old : List ℕ) (K k : ℕ) (w : length target ≡ 32) (unowned : getD old k 0 ≡ 0) where
   abbrev Full : Draft → Type 0
-  Full d = (m : ℕ) → m < 32 → lacks target d (m + 1) ≡ false
+  Full d = (m : ℕ) → m < 32 → belowTarget target d (m + 1) ≡ false
 
   -- where no node lacks one, none is chosen
   full-chosen : (d : Draft) → Full d → chosen target d ≡ 0
@@ -89,7 +90,7 @@ module _ (target old : List ℕ) (K k : ℕ) (w : length target ≡ 32) (unowned
       (λ x.
       let j = chosen target d in
       let e : j - 1 + 1 ≡ j = omega (arith, x .node .0) in
-      clash (lacks target d (j - 1 + 1)) (ap (lacks target d) e ∙ x .lacking) (f (j - 1) (omega (arith, x .node))))
+      clash (belowTarget target d (j - 1 + 1)) (ap (belowTarget target d) e ∙ x .lacking) (f (j - 1) (omega (arith, x .node))))
       (chosen-least target d)
 
   fill-idle : k < K → (i : ℕ) (d : Draft) → i < 80 → DraftOk target old K 80 i d × (k < i → getD (d .owners) k 0 ≡ 0 → Full d)

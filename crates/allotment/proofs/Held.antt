@@ -58,7 +58,7 @@ pub next-held : (s : Schedule) (m : ℕ) (R : List ℕ) (N K : ℕ) (l : List �
 next-held s m R N K = held-written (next s m R N K) (length-next s m R N K)
     (λ k h. omega (arith, owner-at (next s m R N K) k, owner-range s m R N K k))
 
--- bytes that are alike hold the same schedule, tidy or not
+-- bytes that are alike hold the same schedule, well formed or not
 module _ (l m : List ℕ) (at to : ℕ) (e : (k : ℕ) → k < masksSize → getD l (at + k) 0 ≡ getD m (to + k) 0) where
   byte : (p q k : ℕ) → p ≡ at + k → q ≡ to + k → k < masksSize → getD l p 0 ≡ getD m q 0
   byte p q k x y h = ap (λ (i : ℕ). getD l i 0) x ∙ e k h ∙ ap (λ (i : ℕ). getD m i 0) (sym y)

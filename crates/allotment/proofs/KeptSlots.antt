@@ -15,7 +15,7 @@ use Rattle.words.proofs.Counts.{howMany-suc}
 use Rattle.lists.proofs.Laws.{iter-inv, getD-zeros}
 use Rattle.masks.specs.Slots.{owns}
 use Rattle.allotment.specs.Allotment.{Draft}
-use Rattle.allotment.specs.Allotment.{given, lacks, keepOne, blank, kept}
+use Rattle.allotment.specs.Allotment.{given, belowTarget, keepOne, blank, kept}
 use Rattle.allotment.proofs.Laws.{lacks-at}
 use Rattle.allotment.specs.Inner.{among}
 
@@ -64,7 +64,7 @@ module _ (target old : List ℕ) (K : ℕ) (w : length target ≡ 32) where
     j = o - 1
 
     -- the slot stays with its owner
-    module _ (a : ltb n K ≡ true) (b : ltb 0 o ≡ true) (f : lacks target d o ≡ true) where
+    module _ (a : ltb n K ≡ true) (b : ltb 0 o ≡ true) (f : belowTarget target d o ≡ true) where
       room : j < length (d .held)
       room = omega (arith, lacks-at target d o f .0, s .wide, w)
 
@@ -116,13 +116,13 @@ module _ (target old : List ℕ) (K : ℕ) (w : length target ≡ 32) where
           }
 
     -- it is free, behind the K, or released
-    module _ (f : (ltb n K && ltb 0 o && lacks target d o) ≡ false) where
+    module _ (f : (ltb n K && ltb 0 o && belowTarget target d o) ≡ false) where
       full : (i : ℕ) → had i n ≡ true → getD target i 0 ≤ howMany n (had i)
       full i h =
           let e : o ≡ i + 1 = eqb-true o (i + 1) (and-right (ltb n K) (owns old i n) h) in
           let x : j ≡ i = omega (arith, e) in
-          by-test (λ (_ : ℕ). getD target i 0 ≤ howMany n (had i)) (lacks target d o) 0 0
-          (λ t. clash (ltb n K && ltb 0 o && lacks target d o)
+          by-test (λ (_ : ℕ). getD target i 0 ≤ howMany n (had i)) (belowTarget target d o) 0 0
+          (λ t. clash (ltb n K && ltb 0 o && belowTarget target d o)
           (both (both (and-left (ltb n K) (owns old i n) h) (lt-ltb 0 o (omega (arith, e)))) t) f)
           (λ t. let g : getD target j 0 ≤ getD (d .held) j 0 = ltb-false (getD (d .held) j 0) (getD target j 0) t in
           subst (λ (y : ℕ). getD target y 0 ≤ howMany n (had y)) x (omega (arith, g, s .held j)))
@@ -154,9 +154,9 @@ module _ (target old : List ℕ) (K : ℕ) (w : length target ≡ 32) where
     said-turn : Said (suc n) (keepOne target old K n d)
     unfolding keepOne
     said-turn =
-        by-test (λ (x : Draft). Said (suc n) x) (ltb n K && ltb 0 o && lacks target d o) (given d n o) d
-        (λ t. let u = and-left (ltb n K && ltb 0 o) (lacks target d o) t in said-kept (and-left (ltb n K) (ltb 0 o) u)
-        (and-right (ltb n K) (ltb 0 o) u) (and-right (ltb n K && ltb 0 o) (lacks target d o) t))
+        by-test (λ (x : Draft). Said (suc n) x) (ltb n K && ltb 0 o && belowTarget target d o) (given d n o) d
+        (λ t. let u = and-left (ltb n K && ltb 0 o) (belowTarget target d o) t in said-kept (and-left (ltb n K) (ltb 0 o) u)
+        (and-right (ltb n K) (ltb 0 o) u) (and-right (ltb n K && ltb 0 o) (belowTarget target d o) t))
         (λ t. said-left t)
 
   said : Said 80 (kept target old K)

@@ -22,7 +22,8 @@ use Rattle.allotment.specs.Model.{Schedule}
 use Rattle.allotment.specs.declared.Deal.{Deal}
 use Rattle.allotment.specs.Allotment.{Draft}
 use Rattle.allotment.specs.Allotment.{topRequest, ownersOf, ownerOf, scheduleOf, free, ask, asks, dealOne, dealRound, undealt, dealt}
-use Rattle.allotment.specs.Allotment.{targets, given, lacks, keepOne, blank, kept, better, chosen, giveTo, fillOne, filled, allotted}
+use Rattle.allotment.specs.Allotment.{targets, given, belowTarget, keepOne, blank, kept, better, chosen, giveTo, fillOne, filled}
+use Rattle.allotment.specs.Allotment.{allotted}
 use Rattle.allotment.specs.Allotment.{next, total, count, Least}
 
 -- Lists.
@@ -113,7 +114,7 @@ count-le j (x ∷ l) (y ∷ t) h =
 -- Drafts.
 
 -- a node that lacks a slot has an entry in both lists
-pub lacks-at : (target : List ℕ) (d : Draft) (j : ℕ) → lacks target d j ≡ true
+pub lacks-at : (target : List ℕ) (d : Draft) (j : ℕ) → belowTarget target d j ≡ true
     → (j - 1 < length target) × (getD (d .held) (j - 1) 0 < getD target (j - 1) 0)
 lacks-at target d j e =
     let h : getD (d .held) (j - 1) 0 < getD target (j - 1) 0 = ltb-true _ _ e in
@@ -144,7 +145,7 @@ sound-later a′ b′ l m s =
 -- a free slot goes to a node that lacks one
 sound-given : (target old : List ℕ) (K a b a′ b′ : ℕ) (d : Draft) (k j : ℕ) → length target ≡ 32 → DraftOk target old K a b d → a ≤ a′
     → b ≤ b′
-    → k < 80 → getD (d .owners) k 0 ≡ 0 → 0 < j → lacks target d j ≡ true → Slot K a′ b′ k (getD old k 0) j
+    → k < 80 → getD (d .owners) k 0 ≡ 0 → 0 < j → belowTarget target d j ≡ true → Slot K a′ b′ k (getD old k 0) j
     → DraftOk target old K a′ b′ (given d k j)
 sound-given target old K a b a′ b′ d k j w s la lb kl free some e new =
     record {
@@ -204,11 +205,11 @@ sound-given target old K a b a′ b′ d k j w s la lb kl free some e new =
 
 -- of the first n nodes none is below its target, or j is the one with the fewest
 abbrev Chosen : List ℕ → Draft → ℕ → ℕ → Type 0
-Chosen target d n j = ((j ≡ 0) × ((i : ℕ) → i < n → lacks target d (i + 1) ≡ false)) ⊎ Least target d n j
+Chosen target d n j = ((j ≡ 0) × ((i : ℕ) → i < n → belowTarget target d (i + 1) ≡ false)) ⊎ Least target d n j
 
 better-step : (target : List ℕ) (d : Draft) (i j : ℕ) → Chosen target d i j → Chosen target d (suc i) (better target d i j)
 unfolding better
-better-step target d i j p = by-test (Chosen target d (suc i)) (lacks target d (i + 1) && q) (i + 1) j taken left
+better-step target d i j p = by-test (Chosen target d (suc i)) (belowTarget target d (i + 1) && q) (i + 1) j taken left
   where
     has : ℕ → ℕ
     has m = getD (d .held) m 0
@@ -216,34 +217,35 @@ better-step target d i j p = by-test (Chosen target d (suc i)) (lacks target d (
     q : Bool
     q = eqb j 0 || ltb (has i) (has (j - 1))
 
-    below : (lacks target d (i + 1) && q) ≡ true → (m : ℕ) → m < i → lacks target d (m + 1) ≡ true → has i < has m
+    below : (belowTarget target d (i + 1) && q) ≡ true → (m : ℕ) → m < i → belowTarget target d (m + 1) ≡ true → has i < has m
     below e m l h =
         ⊎-elim (λ z. clash _ h (z .1 m l))
         (λ s.
         let n : eqb j 0 ≡ false = ne-eqb j 0 (λ (z : j ≡ 0). omega (arith, s .node .0)) in
-        let t : has i < has (j - 1) = ltb-true (has i) (has (j - 1)) (or-rest (eqb j 0) _ (and-right (lacks target d (i + 1)) q e) n) in
+        let t : has i < has (j - 1) =
+        ltb-true (has i) (has (j - 1)) (or-rest (eqb j 0) _ (and-right (belowTarget target d (i + 1)) q e) n) in
         omega (arith, s .fewest m l h))
         p
 
-    taken : (lacks target d (i + 1) && q) ≡ true → Chosen target d (suc i) (i + 1)
+    taken : (belowTarget target d (i + 1) && q) ≡ true → Chosen target d (suc i) (i + 1)
     taken e =
         let b : i + 1 - 1 ≡ i = omega arith in
         let c : has (i + 1 - 1) ≡ has i = ap has b in
         inr (record {
           node = (omega arith, omega arith);
-          lacking = and-left (lacks target d (i + 1)) q e;
+          lacking = and-left (belowTarget target d (i + 1)) q e;
           fewest = λ m l h. same-or-not m i (λ z. omega (arith, ap has z)) (λ n. omega (arith, below e m (omega (arith, n)) h));
           first = λ m l h. omega (arith, below e m (omega arith) h);
         })
 
-    left : (lacks target d (i + 1) && q) ≡ false → Chosen target d (suc i) j
+    left : (belowTarget target d (i + 1) && q) ≡ false → Chosen target d (suc i) j
     left e =
         ⊎-elim
         (λ z. inl (
           z .0,
           λ m l. same-or-not m i
-              (λ n. ap (λ (x : ℕ). lacks target d (x + 1)) n ∙ is-false (lacks target d (i + 1))
-              (λ h. clash q (or-front (eqb j 0) _ (eq-eqb j 0 (z .0))) (and-rest (lacks target d (i + 1)) q e h)))
+              (λ n. ap (λ (x : ℕ). belowTarget target d (x + 1)) n ∙ is-false (belowTarget target d (i + 1))
+              (λ h. clash q (or-front (eqb j 0) _ (eq-eqb j 0 (z .0))) (and-rest (belowTarget target d (i + 1)) q e h)))
               (λ n. z .1 m (omega (arith, n))),
         ))
         (λ s. inr (record {
@@ -251,9 +253,9 @@ better-step target d i j p = by-test (Chosen target d (suc i)) (lacks target d (
           lacking = s .lacking;
           fewest = λ m l h. same-or-not m i
               (λ z.
-              let t : lacks target d (i + 1) ≡ true = ap (λ (x : ℕ). lacks target d (x + 1)) (sym z) ∙ h in
+              let t : belowTarget target d (i + 1) ≡ true = ap (λ (x : ℕ). belowTarget target d (x + 1)) (sym z) ∙ h in
               let u : has (j - 1) ≤ has i = ltb-false (has i) (has (j - 1))
-              (or-neither (eqb j 0) _ (and-rest (lacks target d (i + 1)) q e t) .1) in
+              (or-neither (eqb j 0) _ (and-rest (belowTarget target d (i + 1)) q e t) .1) in
               omega (arith, ap has z))
               (λ n. s .fewest m (omega (arith, n)) h);
           first = s .first;
@@ -262,7 +264,7 @@ better-step target d i j p = by-test (Chosen target d (suc i)) (lacks target d (
 
 -- who is chosen: no node is below its target and it is 0, or it is the node with the fewest slots, the lowest number among equals
 pub chosen-least : (target : List ℕ) (d : Draft)
-    → ((chosen target d ≡ 0) × ((i : ℕ) → i < 32 → lacks target d (i + 1) ≡ false)) ⊎ Least target d 32 (chosen target d)
+    → ((chosen target d ≡ 0) × ((i : ℕ) → i < 32 → belowTarget target d (i + 1) ≡ false)) ⊎ Least target d 32 (chosen target d)
 unfolding chosen
 chosen-least target d =
     iter-inv {n = 32} (Chosen target d) (better target d) 0 (inl (refl, λ i l. absurd (not-suc-le-zero l)))
@@ -284,15 +286,15 @@ pub keep-step : (target old : List ℕ) (K : ℕ) → length target ≡ 32 → (
 unfolding keepOne
 keep-step target old K w i d l s =
     let o = getD old i 0 in
-    by-test (DraftOk target old K (suc i) 0) (ltb i K && ltb 0 o && lacks target d o) (given d i o) d
+    by-test (DraftOk target old K (suc i) 0) (ltb i K && ltb 0 o && belowTarget target d o) (given d i o) d
     (λ e.
-    let t = and-left (ltb i K && ltb 0 o) (lacks target d o) e in
+    let t = and-left (ltb i K && ltb 0 o) (belowTarget target d o) e in
     let k : i < K = ltb-true i K (and-left (ltb i K) (ltb 0 o) t) in
     let n : 0 < o = ltb-true 0 o (and-right (ltb i K) (ltb 0 o) t) in
     let z : getD (d .owners) i 0 ≡ 0 = ⊎-elim (λ x. x) (λ x. absurd (⊎-elim (λ y. omega (arith, y .2)) (λ y. omega (arith, y .2)) x))
     (s .slot i) in
     sound-given target old K i 0 (suc i) 0 d i o w s (omega arith) (omega arith) l z n
-    (and-right (ltb i K && ltb 0 o) (lacks target d o) e) (inr (inl (refl, k, omega arith))))
+    (and-right (ltb i K && ltb 0 o) (belowTarget target d o) e) (inr (inl (refl, k, omega arith))))
     (λ e. sound-later (suc i) 0 (omega arith) (omega arith) s)
 
 pub fill-step : (target old : List ℕ) (K : ℕ) → length target ≡ 32 → (i : ℕ) (d : Draft) → i < 80 → DraftOk target old K 80 i d
@@ -323,7 +325,7 @@ allotted-sound target old K w =
 
 -- an owner of no more slots than its target lacks one where its next one comes
 pub keeps-on : (target old : List ℕ) (K i : ℕ) (d : Draft) → i < 80 → DraftOk target old K i 0 d → 0 < getD old i 0
-    → count (getD old i 0) old ≤ getD target (getD old i 0 - 1) 0 → lacks target d (getD old i 0) ≡ true
+    → count (getD old i 0) old ≤ getD target (getD old i 0 - 1) 0 → belowTarget target d (getD old i 0) ≡ true
 keeps-on target old K i d l s n fit =
     let o = getD old i 0 in
     let x = o - 1 in
@@ -343,7 +345,7 @@ keeps-on target old K i d l s n fit =
     (omega (arith, c, subst (λ (y : ℕ). count y old ≤ getD target x 0) (sym e) fit, count-more x (d .owners) i o g z, s .counted x))
 
 -- where no node lacks a slot, each has its target
-pub full-at : (target : List ℕ) (d : Draft) → length target ≡ 32 → ((m : ℕ) → m < 32 → lacks target d (m + 1) ≡ false) → (m : ℕ)
+pub full-at : (target : List ℕ) (d : Draft) → length target ≡ 32 → ((m : ℕ) → m < 32 → belowTarget target d (m + 1) ≡ false) → (m : ℕ)
     → getD target m 0 ≤ getD (d .held) m 0
 full-at target d w h m = go (ltb m 32) refl
   where
@@ -372,22 +374,22 @@ module _ (target old : List ℕ) (K : ℕ) (w : length target ≡ 32) (fit : (j 
   unfolding keepOne
   keep-full i d l s = (
     keep-step target old K w i d l (s .0),
-    by-test (λ x. total (x .held) + howMany (suc i) open-slot ≡ min K (suc i)) (ltb i K && ltb 0 o && lacks target d o)
+    by-test (λ x. total (x .held) + howMany (suc i) open-slot ≡ min K (suc i)) (ltb i K && ltb 0 o && belowTarget target d o)
         (given d i o) d taken left,
   )
     where
       o : ℕ
       o = getD old i 0
 
-      taken : (ltb i K && ltb 0 o && lacks target d o) ≡ true
+      taken : (ltb i K && ltb 0 o && belowTarget target d o) ≡ true
           → total (set (d .held) (o - 1) (getD (d .held) (o - 1) 0 + 1)) + howMany (suc i) open-slot ≡ min K (suc i)
       taken e =
-          let t = and-left (ltb i K && ltb 0 o) (lacks target d o) e in
+          let t = and-left (ltb i K && ltb 0 o) (belowTarget target d o) e in
           let k : i < K = ltb-true i K (and-left (ltb i K) (ltb 0 o) t) in
           let n : 0 < o = ltb-true 0 o (and-right (ltb i K) (ltb 0 o) t) in
           let f : eqb o 0 ≡ false = ne-eqb o 0 (λ (z : o ≡ 0). omega arith) in
           let g : open-slot i ≡ false = ap (λ (b : Bool). ltb i K && b) f ∙ ap (λ (b : Bool). b && false) (lt-ltb i K k) in
-          let q = lacks-at target d o (and-right (ltb i K && ltb 0 o) (lacks target d o) e) in
+          let q = lacks-at target d o (and-right (ltb i K && ltb 0 o) (belowTarget target d o) e) in
           omega (
             arith,
             s .1,
@@ -412,12 +414,12 @@ module _ (target old : List ℕ) (K : ℕ) (w : length target ≡ 32) (fit : (j 
           go true e = ltb-true i K e
           go false e = absurd (n (behind i (ltb-false i K e)))
 
-      left : (ltb i K && ltb 0 o && lacks target d o) ≡ false → total (d .held) + howMany (suc i) open-slot ≡ min K (suc i)
+      left : (ltb i K && ltb 0 o && belowTarget target d o) ≡ false → total (d .held) + howMany (suc i) open-slot ≡ min K (suc i)
       left e =
           same-or-not o 0 (λ z. free-slot z (ltb i K) refl)
           (λ n.
           let k : i < K = reach n in
-          clash (ltb i K && ltb 0 o && lacks target d o)
+          clash (ltb i K && ltb 0 o && belowTarget target d o)
           (ap₂ _&&_ (ap₂ _&&_ (lt-ltb i K k) (lt-ltb 0 o (omega (arith, n))))
           (keeps-on target old K i d l (s .0) (omega (arith, n))
           (subst (λ (x : ℕ). count x old ≤ getD target (o - 1) 0) (omega (arith, n)) (fit (o - 1))))) e)

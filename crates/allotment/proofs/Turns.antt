@@ -15,7 +15,7 @@ use Rattle.lists.proofs.Laws.{iter-still, iter-inv}
 use Rattle.words.proofs.Tests.{clash, by-test, same-or-not, is-false, and-left, and-right, or-front, hit, skip}
 use Rattle.allotment.specs.declared.Deal.{Deal}
 use Rattle.allotment.specs.Allotment.{Draft}
-use Rattle.allotment.specs.Allotment.{dealOne, dealRound, given, lacks, better, chosen, holding, giveTo, fillOne, filled, Least}
+use Rattle.allotment.specs.Allotment.{dealOne, dealRound, given, belowTarget, better, chosen, holding, giveTo, fillOne, filled, Least}
 use Rattle.allotment.proofs.Laws.{lacks-at, chosen-least}
 
 -- the steps behind K, where they change nothing, need not be taken
@@ -97,7 +97,7 @@ module _ (target : List ℕ) (d : Draft) (i best least : ℕ) (p : (best ≡ 0) 
   abbrev wins : Bool
   wins = ltb has (getD target i 0) && (eqb best 0 || ltb has least)
 
-  wins-is : wins ≡ (lacks target d (i + 1) && (eqb best 0 || ltb has (getD (d .held) (best - 1) 0)))
+  wins-is : wins ≡ (belowTarget target d (i + 1) && (eqb best 0 || ltb has (getD (d .held) (best - 1) 0)))
   wins-is =
       let e : i ≡ i + 1 - 1 = omega arith in
       ap₂ _&&_ (ap (λ (m : ℕ). ltb (getD (d .held) m 0) (getD target m 0)) e)
@@ -129,7 +129,7 @@ best-all target d n z = sym
     rest : ℕ → Bool
     rest i = eqb (bestOf target d n) 0 || ltb (getD (d .held) i 0) (getD (d .held) (bestOf target d n - 1) 0)
 
-    full : (i : ℕ) → n ≤ i → lacks target d (i + 1) ≡ false
+    full : (i : ℕ) → n ≤ i → belowTarget target d (i + 1) ≡ false
     full i l =
         let e : getD target (i + 1 - 1) 0 ≡ 0 = z .1 (i + 1 - 1) (omega arith) in
         le-ltb (getD (d .held) (i + 1 - 1) 0) (getD target (i + 1 - 1) 0) (omega arith)
@@ -142,7 +142,7 @@ At target held level from = (i : ℕ) → getD held i 0 < getD target i 0 → (l
 least-chosen : (target : List ℕ) (d : Draft) (j : ℕ) → Least target d 32 j → j ≡ chosen target d
 least-chosen target d j p =
     ⊎-elim
-    (λ z. clash (lacks target d (j - 1 + 1)) (ap (lacks target d) (back j (p .node .0)) ∙ p .lacking)
+    (λ z. clash (belowTarget target d (j - 1 + 1)) (ap (belowTarget target d) (back j (p .node .0)) ∙ p .lacking)
     (z .1 (j - 1) (omega (arith, p .node))))
     (λ q. same-or-not j c (λ z. z) (λ n. absurd (omega (arith, n, lower j c p q, lower c j q p))))
     (chosen-least target d)
@@ -159,8 +159,8 @@ least-chosen target d j p =
         go : (t : Bool) → ltb a b ≡ t → b ≤ a
         go true e =
             let l : a < b = ltb-true a b e in
-            let x = q .first (a - 1) (omega (arith, p .node .0)) (ap (lacks target d) (back a (p .node .0)) ∙ p .lacking) in
-            let y = p .fewest (b - 1) (omega (arith, q .node)) (ap (lacks target d) (back b (q .node .0)) ∙ q .lacking) in
+            let x = q .first (a - 1) (omega (arith, p .node .0)) (ap (belowTarget target d) (back a (p .node .0)) ∙ p .lacking) in
+            let y = p .fewest (b - 1) (omega (arith, q .node)) (ap (belowTarget target d) (back b (q .node .0)) ∙ q .lacking) in
             absurd (omega arith)
         go false e = ltb-false a b e
 
@@ -181,7 +181,7 @@ module _ (target held : List ℕ) (level i : ℕ) (at : At target held level i) 
       s : getD held i 0 ≡ level
       s = eqb-true _ _ (and-left _ (ltb (getD held i 0) (getD target i 0)) t)
 
-      below : (m : ℕ) → lacks target (holding held) (m + 1) ≡ true → getD held m 0 < getD target m 0
+      below : (m : ℕ) → belowTarget target (holding held) (m + 1) ≡ true → getD held m 0 < getD target m 0
       below m h = let c : m + 1 - 1 ≡ m = omega arith in ltb-true _ _ (subst (λ (x : ℕ). ltb (getD held x 0) (getD target x 0) ≡ true) c h)
 
   -- else the turn is the next node's
@@ -268,7 +268,7 @@ module _ (target old : List ℕ) (K : ℕ) (d : Draft) (j : ℕ) (b : j ≡ chos
             let v : getD (set (d .held) i m) n 0 ≡ getD (d .held) n 0 = getD-set-other (d .held) i n m 0 z in
             let c : n + 1 - 1 ≡ n = omega arith in
             let below : getD (d .held) n 0 < getD target n 0 = omega arith in
-            let lack : lacks target d (n + 1) ≡ true = subst (λ (x : ℕ). ltb (getD (d .held) x 0) (getD target x 0) ≡ true) (sym c)
+            let lack : belowTarget target d (n + 1) ≡ true = subst (λ (x : ℕ). ltb (getD (d .held) x 0) (getD target x 0) ≡ true) (sym c)
             (lt-ltb _ _ below) in (
               omega (arith, v, at-i, least .fewest n (omega (arith, lacks-at target d (n + 1) lack .0)) lack),
               λ l. omega (arith, v, at-i, least .first n (omega (arith, stands, least .node .0, z)) lack),

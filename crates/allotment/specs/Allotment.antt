@@ -88,12 +88,12 @@ abbrev pub given : Draft → ℕ → ℕ → Draft
 given d k j = record { owners = set (d .owners) k j; held = set (d .held) (j - 1) (getD (d .held) (j - 1) 0 + 1) }
 
 -- whether the node of number j has fewer than its target
-abbrev pub lacks : List ℕ → Draft → ℕ → Bool
-lacks target d j = ltb (getD (d .held) (j - 1) 0) (getD target (j - 1) 0)
+abbrev pub belowTarget : List ℕ → Draft → ℕ → Bool
+belowTarget target d j = ltb (getD (d .held) (j - 1) 0) (getD target (j - 1) 0)
 
 -- an owner keeps a slot if it has kept fewer than its target so far; otherwise the slot is released
 unfoldable pub keepOne : List ℕ → List ℕ → ℕ → ℕ → Draft → Draft
-keepOne target old K k d = cond (ltb k K && ltb 0 (getD old k 0) && lacks target d (getD old k 0)) (given d k (getD old k 0)) d
+keepOne target old K k d = cond (ltb k K && ltb 0 (getD old k 0) && belowTarget target d (getD old k 0)) (given d k (getD old k 0)) d
 
 -- nobody has a slot yet
 abbrev pub blank : Draft
@@ -107,7 +107,7 @@ kept target old K = iter 80 (keepOne target old K) blank
 -- the lower number
 unfoldable pub better : List ℕ → Draft → ℕ → ℕ → ℕ
 better target d i best =
-    cond (lacks target d (i + 1) && (eqb best 0 || ltb (getD (d .held) i 0) (getD (d .held) (best - 1) 0))) (i + 1) best
+    cond (belowTarget target d (i + 1) && (eqb best 0 || ltb (getD (d .held) i 0) (getD (d .held) (best - 1) 0))) (i + 1) best
 
 -- of the nodes below their targets the one with the fewest slots, the lowest number among equals; 0 where there is none
 unfoldable pub chosen : List ℕ → Draft → ℕ
@@ -152,9 +152,9 @@ count j (x ∷ l) = digit (eqb x j) + count j l
 -- of the first n nodes that are below their targets, the node of number j has the fewest slots, and fewer than those of lower numbers
 pub record Least (target : List ℕ) (d : Draft) (n j : ℕ) : Type 0 where
   pub node : (0 < j) × (j ≤ n)
-  pub lacking : lacks target d j ≡ true
-  pub fewest : (i : ℕ) → i < n → lacks target d (i + 1) ≡ true → getD (d .held) (j - 1) 0 ≤ getD (d .held) i 0
-  pub first : (i : ℕ) → i + 1 < j → lacks target d (i + 1) ≡ true → getD (d .held) (j - 1) 0 < getD (d .held) i 0
+  pub lacking : belowTarget target d j ≡ true
+  pub fewest : (i : ℕ) → i < n → belowTarget target d (i + 1) ≡ true → getD (d .held) (j - 1) 0 ≤ getD (d .held) i 0
+  pub first : (i : ℕ) → i + 1 < j → belowTarget target d (i + 1) ≡ true → getD (d .held) (j - 1) 0 < getD (d .held) i 0
 
 -- What the allotment keeps, whatever the schedule, the members, the requests, N and K (proved in proofs/Fairness.antt).
 pub record Fairness (s : Schedule) (members : ℕ) (requests : List ℕ) (N K : ℕ) : Type 0 where

@@ -185,7 +185,8 @@ fn choose(target: &[u8; 32], held: &[u8; 32], n: usize) -> u8
 // the next one with just as many, or else the walk over all.
 fn turn(target: &[u8; 32], held: &[u8; 32], n: usize, level: u8, from: usize) -> u8
     requires { ⌜ (n ≤ 32) × ((i : ℕ) → n ≤ i → getD (now target) i 0 ≡ 0) ×
-        ((i : ℕ) → getD (now held) i 0 < getD (now target) i 0 → (level ≤ getD (now held) i 0) × (i < from → level < getD (now held) i 0)) ⌝ }
+        ((i : ℕ) → getD (now held) i 0 < getD (now target) i 0 → (level ≤ getD (now held) i 0)
+        × (i < from → level < getD (now held) i 0)) ⌝ }
     ensures { λ r. ⌜ r ≡ chosen (now (target .entry)) (holding (now (held .entry))) ⌝ }
 {
     for i in from..n {

@@ -24,15 +24,16 @@ use Rattle.node.specs.declared.Config.{Config}
 use Rattle.site.specs.declared.Table.{Table}
 use Rattle.site.specs.declared.Event.{Event}
 use Rattle.site.specs.declared.Event.the-variants.{Send, Hear, Close, Take, End, Want, Crash, Restart}
-use Rattle.boxes.specs.field.Field.{Box, Field, Act, reading, phaseIn, live, change, crashed, fieldCrash, fieldRestart, fieldAnswer}
+use Rattle.boxes.specs.field.Field.{Box, Field, Act, reading, boxPhase, live, change, crashed, fieldCrash, fieldRestart, fieldAnswer}
 use Rattle.boxes.specs.field.Field.{nextField}
 use Rattle.boxes.specs.field.Field.{fieldAfter, fieldRun, begunField}
-use Rattle.boxes.specs.field.Past.{BoxDetermination, BoxPast, boxDetermination, boxDeterminedBy, boxesDetermined, atClose, atEnd, boxNoted}
+use Rattle.boxes.specs.field.Past.{BoxDetermination, BoxPast, boxDetermination, boxDeterminedBy, boxesDetermined, atClose, boxPastAtEnd}
+use Rattle.boxes.specs.field.Past.{boxNoted}
 use Rattle.boxes.specs.field.Past.{boxPastAfter, boxTrace, noBoxPast}
-use Rattle.boxes.specs.field.Claim.{Begins, BoxHeld, BoxGrounded, SameBoxDetermination}
+use Rattle.boxes.specs.field.Claim.{Begins, BoxHeld, BoxJustified, SameBoxDetermination}
 use Rattle.boxes.proofs.field.Theorem.{field-holds}
 use Rattle.apart.specs.Apart.{Apart, boxNow, negotiation, lastPhase, tickBox, between, sorted}
-use Rattle.apart.specs.Determined.{placeOf, epochOf, startOf, nodeIn, Determines, determined}
+use Rattle.apart.specs.Determined.{placeOfPhase, epochOf, startOf, nodeInPhase, Determines, determined}
 use Rattle.apart.proofs.Local.{Like, within, Within, none, then, within-snoc, but, is-but, kept-run, anyone}
 use Rattle.apart.proofs.Sync.{Kind, kind, talk, rest, last, closes, rests, ends, tick-box, sync, start, sync-is, sync-phase, longer}
 use Rattle.apart.proofs.Sync.{longer-there, longer-else, sync-there, sync-later}
@@ -79,7 +80,7 @@ module _ (s : ℕ) (y : BoxPast) (x : Field) where
   trace-rests e f = rw (e, f) refl
 
   trace-ends : negotiation s ≡ false → lastPhase s ≡ true → x .negotiates ≡ false
-      → boxTrace y x (between s) ≡ atEnd y x (fieldRun x (between s))
+      → boxTrace y x (between s) ≡ boxPastAtEnd y x (fieldRun x (between s))
   unfolding between boxTrace boxPastAfter fieldRun
   trace-ends e f n = rw (e, f, n) refl
 
@@ -121,14 +122,14 @@ module _ (x : Field) (n : x .negotiates ≡ true) (log : ℕ → List Act) (w : 
       go (rest e f g) = ap (λ (y : Field). y .config) (rests s (X s) e f)
       go (last e f g) = ap (λ (y : Field). y .config) (ends s (X s) e f (said s ∙ e))
 
-  pub place-is : (s : ℕ) → X s .place ≡ placeOf f s
-  unfolding placeOf
+  pub place-is : (s : ℕ) → X s .place ≡ placeOfPhase f s
+  unfolding placeOfPhase
   place-is zero = ap (λ (y : Field). y .place) (sync-is log x zero) ∙ sym (kept-run (log zero) x (w zero) .place) ∙ z
   place-is (suc s) = ap (λ (y : Field). y .place) (sync-is log x (suc s))
       ∙ sym (kept-run (log (suc s)) (start log x (suc s)) (w (suc s)) .place) ∙ go (place-is s) (kind s)
     where
       p : ℕ
-      p = placeOf f s
+      p = placeOfPhase f s
 
       on : (t : Bool) → lastPhase s ≡ t → cond t (cond (isLast f p) 0 (p + 1)) p
           ≡ cond (lastPhase s) (cond (isLast f p) 0 (p + 1)) p
@@ -171,7 +172,7 @@ module _ (x : Field) (n : x .negotiates ≡ true) (log : ℕ → List Act) (w : 
   past-epoch (suc s) = ap (λ (y : BoxPast). y .epoch) (past-next s) ∙ go (past-epoch s) (kind s)
     where
       p : ℕ
-      p = placeOf f s
+      p = placeOfPhase f s
 
       q : ℕ
       q = epochOf f s
@@ -285,7 +286,7 @@ crash-down x k h = go (isDone (fieldCrash x k)) refl
 
 down-live : (b : Box) → b .up ≡ false → live b ≡ false
 unfolding live
-down-live b e = ap (λ (t : Bool). t && not (eqb (phaseIn (reading b)) 3)) e
+down-live b e = ap (λ (t : Bool). t && not (eqb (boxPhase (reading b)) 3)) e
 
 -- What boxes apart determined
 
@@ -318,8 +319,8 @@ module _ (f : Config) (t : Table) (left : ℕ → List ℕ) (b : Begins f t left
         there v d = logged x begun-talks log w begun-place s j g l (subst (λ (k : Config). j ≤ k .nodes) (sym begun-config) m) v d
 
         rests-on : live (Y .boxes j) ≡ true → determines (decoded (Y .boxes j .area)) ≡ true
-            → BoxGrounded (f .nodes) (boxDetermination (past x begun-talks log w begun-place s) j (decoded (Y .boxes j .area)))
-        rests-on v d = field-holds .demand3 f t left b (sorted log (suc s)) .grounded u .grounded _ (there v d)
+            → BoxJustified (f .nodes) (boxDetermination (past x begun-talks log w begun-place s) j (decoded (Y .boxes j .area)))
+        rests-on v d = field-holds .demand3 f t left b (sorted log (suc s)) .justified u .justified _ (there v d)
 
     module _ (A : Apart) (v : Inv x A) where
       abbrev log : ℕ → List Act
@@ -331,7 +332,7 @@ module _ (f : Config) (t : Table) (left : ℕ → List ℕ) (b : Begins f t left
       is-there : (s j : ℕ) → s ≤ A .clock j → A .phases s .boxes j ≡ sync log x s .boxes j
       is-there s j c = v .each s .boxes j (le-leb s (A .clock j) c)
 
-      node-is : (s j : ℕ) → s ≤ A .clock j → nodeIn A s j ≡ decoded (sync log x s .boxes j .area)
+      node-is : (s j : ℕ) → s ≤ A .clock j → nodeInPhase A s j ≡ decoded (sync log x s .boxes j .area)
       node-is s j c = ap (λ (z : Box). decoded (z .area)) (is-there s j c)
 
       start-is : (s k : ℕ) → s ≤ A .clock k → startOf f t left A s k ≡ start log x s .boxes k
@@ -340,7 +341,7 @@ module _ (f : Config) (t : Table) (left : ℕ → List ℕ) (b : Begins f t left
           ∙ sym (tick-box s (sync log x s) k (sync-phase log x begun-talks (v .some) s))
 
       -- a box that has not come to the round could as well have crashed before it, and so is none of those whose requests were counted
-      not-come : (s j k : ℕ) → Determines f A (suc s) j → isIn (nodeIn A (suc s) j .round .merged) k ≡ true → A .clock k < suc s → ⊥
+      not-come : (s j k : ℕ) → Determines f A (suc s) j → isIn (nodeInPhase A (suc s) j .round .merged) k ≡ true → A .clock k < suc s → ⊥
       not-come s j k D i l = never {A = ⊥} (sym lives ∙ down)
         where
           longer-log : ℕ → List Act
@@ -361,7 +362,7 @@ module _ (f : Config) (t : Table) (left : ℕ → List ℕ) (b : Begins f t left
           own : A .phases (suc s) .boxes j ≡ sync longer-log x (suc s) .boxes j
           own = is-there (suc s) j (D .negotiates .came) ∙ same .boxes j (is-but j k others)
 
-          held : BoxGrounded (f .nodes) (boxDetermination (past x begun-talks longer-log some begun-place (suc s)) j
+          held : BoxJustified (f .nodes) (boxDetermination (past x begun-talks longer-log some begun-place (suc s)) j
               (decoded (sync longer-log x (suc s) .boxes j .area)))
           held = rests-on longer-log some (suc s) j (D .negotiates .phase) (D .negotiates .number) (D .number)
               (sym (ap live own) ∙ D .negotiates .lives) (sym (ap (λ (z : Box). determines (decoded (z .area))) own) ∙ D .determines)
@@ -379,7 +380,7 @@ module _ (f : Config) (t : Table) (left : ℕ → List ℕ) (b : Begins f t left
           down = down-live _ (tick-up s (fieldAfter (sync log x s) (crash k) .boxes k)
               ∙ crash-down (sync log x s) k (numbered-run (sorted log s) x (numbered-begun f t left)))
 
-      pub have-come : (s j k : ℕ) → Determines f A s j → isIn (nodeIn A s j .round .merged) k ≡ true → s ≤ A .clock k
+      pub have-come : (s j k : ℕ) → Determines f A s j → isIn (nodeInPhase A s j .round .merged) k ≡ true → s ≤ A .clock k
       have-come zero j k D i = omega arith
       have-come (suc s) j k D i = go (decLt (A .clock k) (suc s))
         where
@@ -393,14 +394,14 @@ module _ (f : Config) (t : Table) (left : ℕ → List ℕ) (b : Begins f t left
           (sym (ap live (is-there s j (D .negotiates .came))) ∙ D .negotiates .lives)
           (sym (ap determines (node-is s j (D .negotiates .came))) ∙ D .determines)
 
-      pub all-grounded : (s j : ℕ) → Determines f A s j → BoxGrounded (f .nodes) (determined f t left A s j)
-      all-grounded s j D =
+      pub all-justified : (s j : ℕ) → Determines f A s j → BoxJustified (f .nodes) (determined f t left A s j)
+      all-justified s j D =
           let e = node-is s j (D .negotiates .came) in
-          let g = field-holds .demand3 f t left b (sorted log (suc s)) .grounded u .grounded _ (noted s j D) in
+          let g = field-holds .demand3 f t left b (sorted log (suc s)) .justified u .justified _ (noted s j D) in
           record {
             most = subst (λ (n : Node). f .nodes < 2 * size (n .round .merged)) (sym e) (g .most);
             held = λ k i.
-                subst (λ (z : Box). BoxHeld z (entryOf (nodeIn A s j .round .known) k) (nodeIn A s j .version + 1))
+                subst (λ (z : Box). BoxHeld z (entryOf (nodeInPhase A s j .round .known) k) (nodeInPhase A s j .version + 1))
                 (ap (λ (z : ℕ → Box). z k) (past-start x begun-talks log (v .some) begun-place s (D .negotiates .phase))
                 ∙ sym (start-is s k (have-come s j k D i)))
                 (subst (λ (n : Node). BoxHeld (was s .start k) (entryOf (n .round .known) k) (n .version + 1)) (sym e)
@@ -412,7 +413,7 @@ module _ (f : Config) (t : Table) (left : ℕ → List ℕ) (b : Begins f t left
       all-unique s i r j D E h =
           let d = node-is s i (D .negotiates .came) in
           let e = node-is r j (E .negotiates .came) in
-          let q = field-holds .demand3 f t left b (sorted log (suc (s + r))) .grounded u .unique _ _
+          let q = field-holds .demand3 f t left b (sorted log (suc (s + r))) .justified u .unique _ _
           (past-later x begun-talks log (v .some) begun-place (suc s) (suc (s + r)) _ (omega arith) (noted s i D))
           (past-later x begun-talks log (v .some) begun-place (suc r) (suc (s + r)) _ (omega arith) (noted r j E))
           (epoch-is s ∙ h ∙ sym (epoch-is r)) in

@@ -16,7 +16,8 @@ use Rattle.site.specs.declared.Table.{Table}
 use Rattle.site.specs.declared.Event.{Event}
 use Rattle.site.specs.declared.Event.the-variants.{Send, Hear, Close, Take, End, Want, Crash, Restart}
 use Rattle.boxes.specs.field.Field.{Box, Field, Act, change, fieldAnswer, fieldAfter, fieldRun, fieldAnswers, begunField}
-use Rattle.apart.specs.Apart.{Step, tick, act, Apart, boxNow, actor, possible, acted, tickBox, ticked, apartAfter, apartRun, between}
+use Rattle.apart.specs.Apart.{Step, tick, act, Apart, boxNow, actingBox, possible, acted, tickBox, ticked, apartAfter, apartRun}
+use Rattle.apart.specs.Apart.{between}
 use Rattle.apart.specs.Apart.{sorted, begunApart}
 use Rattle.apart.proofs.Local.{Like, within, Within, none, within-snoc, same-answer, after-like, answers-like, answers-snoc, but}
 use Rattle.apart.proofs.Local.{is-but, anyone, within-anyone, else-run}
@@ -52,7 +53,7 @@ here : (n : ℕ) → leb n n ≡ true
 here n = le-leb n n (omega arith)
 
 -- a possible event is one of boxes that have come to its phase
-possible-came : (A : Apart) (e : Event) → possible A e ≡ true → within (came (A .clock) (A .clock (actor e))) e ≡ true
+possible-came : (A : Apart) (e : Event) → possible A e ≡ true → within (came (A .clock) (A .clock (actingBox e))) e ≡ true
 possible-came A (Send j) r = here (A .clock j)
 possible-came A (Hear j p) r = here (A .clock j)
 possible-came A Close r = r
@@ -80,7 +81,7 @@ came-but clock s k h i p = is-but i k (λ e. let l : s ≤ clock i = leb-true s 
 -- an event of one box
 module _ (x : Field) (A : Apart) (v : Inv x A) (a : Act) (r : possible A (a .event) ≡ true) where
   abbrev j : ℕ
-  j = actor (a .event)
+  j = actingBox (a .event)
 
   abbrev u : ℕ
   u = A .clock j
@@ -164,9 +165,9 @@ keeps-acted x A v a = go (possible A (a .event)) refl
         → Inv x (cond t
         (record {
           clock = A .clock;
-          phases = λ s. cond (eqb s (A .clock (actor (a .event)))) (fieldAfter (A .phases s) a) (A .phases s);
-          log = λ s. cond (eqb s (A .clock (actor (a .event)))) (A .log s ++ (a ∷ [])) (A .log s);
-          answers = λ s. cond (eqb s (A .clock (actor (a .event)))) (A .answers s ++ (fieldAnswer (A .phases s) (a .event) ∷ []))
+          phases = λ s. cond (eqb s (A .clock (actingBox (a .event)))) (fieldAfter (A .phases s) a) (A .phases s);
+          log = λ s. cond (eqb s (A .clock (actingBox (a .event)))) (A .log s ++ (a ∷ [])) (A .log s);
+          answers = λ s. cond (eqb s (A .clock (actingBox (a .event)))) (A .answers s ++ (fieldAnswer (A .phases s) (a .event) ∷ []))
               (A .answers s);
         })
         A)

@@ -21,7 +21,7 @@ use Rattle.site.specs.declared.Event.{Event}
 use Rattle.site.specs.declared.Event.the-variants.{Send, Hear, Close, Take, End, Want, Crash, Restart}
 use Rattle.boxes.specs.field.Field.{Box, Field, Act, zeros, live, fieldSend, fieldHear, fieldTake, fieldWant, fieldCrash, fieldRestart}
 use Rattle.boxes.specs.field.Field.{fieldAnswer, boxHolding, change, nextField, fieldAfter, fieldRun, fieldAnswers}
-use Rattle.apart.specs.Apart.{actor}
+use Rattle.apart.specs.Apart.{actingBox}
 
 -- two fields alike but for the boxes outside P
 pub record Like (P : ℕ → Bool) (x y : Field) : Type 0 where
@@ -213,7 +213,7 @@ within-anyone P (Want j d) p = refl
 within-anyone P (Crash j) p = refl
 within-anyone P (Restart j flags) p = refl
 
-pub within-actor : (P : ℕ → Bool) (e : Event) → within P e ≡ true → P (actor e) ≡ true
+pub within-actor : (P : ℕ → Bool) (e : Event) → within P e ≡ true → P (actingBox e) ≡ true
 within-actor P (Send j) p = p
 within-actor P (Hear j q) p = p
 within-actor P Close p = never (sym p)
@@ -223,7 +223,7 @@ within-actor P (Want j d) p = p
 within-actor P (Crash j) p = p
 within-actor P (Restart j flags) p = p
 
-else-next : (x : Field) (k : ℕ) (e : Event) (left : List ℕ) → within anyone e ≡ true → but k (actor e) ≡ true
+else-next : (x : Field) (k : ℕ) (e : Event) (left : List ℕ) → within anyone e ≡ true → but k (actingBox e) ≡ true
     → nextField x e left .boxes k ≡ x .boxes k
 else-next x k (Send j) left w p = refl
 else-next x k (Hear j q) left w p = put-else x j k _ p
@@ -235,7 +235,7 @@ else-next x k (Crash j) left w p = put-else x j k _ p
 else-next x k (Restart j flags) left w p = put-else x j k _ p
 
 -- an event leaves every box that it is not of
-pub else-after : (x : Field) (k : ℕ) (a : Act) → within anyone (a .event) ≡ true → but k (actor (a .event)) ≡ true
+pub else-after : (x : Field) (k : ℕ) (a : Act) → within anyone (a .event) ≡ true → but k (actingBox (a .event)) ≡ true
     → fieldAfter x a .boxes k ≡ x .boxes k
 unfolding fieldAfter
 else-after x k a w p = read-same (λ (z : Field). z .boxes k) (isDone (fieldAnswer x (a .event))) _ x _

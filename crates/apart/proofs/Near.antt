@@ -15,7 +15,7 @@ use Rattle.site.specs.declared.Table.{Table}
 use Rattle.site.specs.declared.Event.{Event}
 use Rattle.site.specs.declared.Event.the-variants.{Send, Hear, Close, Take, End, Want, Crash, Restart}
 use Rattle.boxes.specs.field.Field.{Box, Field, Act, live, change, closeBox, endBox, nextField, fieldAnswer, fieldAfter}
-use Rattle.apart.specs.Apart.{Step, tick, act, Apart, negotiation, lastPhase, boxNow, actor, possible, acted, tickBox, ticked}
+use Rattle.apart.specs.Apart.{Step, tick, act, Apart, negotiation, lastPhase, boxNow, actingBox, possible, acted, tickBox, ticked}
 use Rattle.apart.specs.Apart.{apartAfter, apartRun, begunApart}
 use Rattle.apart.specs.Claim.{Abreast, AllAbreast, Waits, Orderly, then}
 use Rattle.apart.proofs.Local.{within, anyone}
@@ -190,14 +190,14 @@ was-now A a k p = go (possible A (a .event)) refl p
         → boxNow (cond t
         (record {
           clock = A .clock;
-          phases = λ s. cond (eqb s (A .clock (actor (a .event)))) (fieldAfter (A .phases s) a) (A .phases s);
-          log = λ s. cond (eqb s (A .clock (actor (a .event)))) (A .log s ++ (a ∷ [])) (A .log s);
-          answers = λ s. cond (eqb s (A .clock (actor (a .event)))) (A .answers s ++ (fieldAnswer (A .phases s) (a .event) ∷ []))
+          phases = λ s. cond (eqb s (A .clock (actingBox (a .event)))) (fieldAfter (A .phases s) a) (A .phases s);
+          log = λ s. cond (eqb s (A .clock (actingBox (a .event)))) (A .log s ++ (a ∷ [])) (A .log s);
+          answers = λ s. cond (eqb s (A .clock (actingBox (a .event)))) (A .answers s ++ (fieldAnswer (A .phases s) (a .event) ∷ []))
               (A .answers s);
         })
         A) k .up ≡ true → WasNow A a k
     go false r h = was h
-    go true r h = at (eqb c (A .clock (actor (a .event)))) h
+    go true r h = at (eqb c (A .clock (actingBox (a .event)))) h
       where
         at : (t : Bool) → cond t (fieldAfter (A .phases c) a) (A .phases c) .boxes k .up ≡ true → WasNow A a k
         at true g = turn (was-up (A .phases c) a k (possible-any A (a .event) r) g)
@@ -214,7 +214,7 @@ acted-abreast A a n w =
     go i k (was u) (was v) = n .any i k u v
     go i k (was u) (came flags e d) = w .restarts a k flags refl e d i u
     go i k (came flags e d) (was v) = turned (w .restarts a i flags refl e d k v)
-    go i k (came flags e d) (came flags2 e2 d2) = subst (λ (l : ℕ). Abreast (A .clock i) (A .clock l)) (ap actor (sym e ∙ e2))
+    go i k (came flags e d) (came flags2 e2 d2) = subst (λ (l : ℕ). Abreast (A .clock i) (A .clock l)) (ap actingBox (sym e ∙ e2))
         (self (A .clock i))
 
 after-abreast : (A : Apart) (m : Step) → AllAbreast A → Waits A m → AllAbreast (apartAfter A m)

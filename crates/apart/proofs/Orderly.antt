@@ -13,7 +13,7 @@ use Rattle.site.specs.declared.Table.{Table}
 use Rattle.site.specs.declared.Event.{Event}
 use Rattle.site.specs.declared.Event.the-variants.{Send, Hear, Close, Take, End, Want, Crash, Restart}
 use Rattle.boxes.specs.field.Field.{Act, begunField}
-use Rattle.apart.specs.Apart.{Step, tick, act, Apart, lastPhase, actor, possible, acted, ticked, begunApart}
+use Rattle.apart.specs.Apart.{Step, tick, act, Apart, lastPhase, actingBox, possible, acted, ticked, begunApart}
 use Rattle.apart.specs.Claim.{Abreast, Waits, Orderly, none, then}
 use Rattle.apart.proofs.Keeps.{Inv, keeps, keeps-begun}
 use Rattle.apart.proofs.Determined.{up-inside}
@@ -61,7 +61,7 @@ are-abreast c d h =
 -- the test of one step, and of a list
 abbrev pub waitsBy : ℕ → (ℕ → ℕ) → Step → Bool
 waitsBy n clock (tick j) = not (lastPhase (clock j)) || allTo n (λ i. leb (clock j) (clock i + 1))
-waitsBy n clock (act a) = not (isRestart (a .event)) || allTo n (λ i. areAbreast (clock i) (clock (actor (a .event))))
+waitsBy n clock (act a) = not (isRestart (a .event)) || allTo n (λ i. areAbreast (clock i) (clock (actingBox (a .event))))
 
 abbrev pub clockAfter : (ℕ → ℕ) → Step → ℕ → ℕ
 clockAfter clock (tick j) k = cond (eqb k j) (suc (clock j)) (clock k)
@@ -95,9 +95,10 @@ module _ (f : Config) (t : Table) (left : ℕ → List ℕ) where
         restarts = λ b k flags e g u i w.
             let y : a .event ≡ Restart k flags = ap eventOf e ∙ g in
             let r = up-inside f t left A v i w in
-            let z = all-at (f .nodes) (λ l. areAbreast (A .clock l) (A .clock (actor (a .event))))
+            let z = all-at (f .nodes) (λ l. areAbreast (A .clock l) (A .clock (actingBox (a .event))))
             (implied (isRestart (a .event)) _ h (ap isRestart y)) i (r .0) (r .1) in
-            subst (λ (l : ℕ). Abreast (A .clock i) (A .clock l)) (ap actor y) (are-abreast (A .clock i) (A .clock (actor (a .event))) z);
+            subst (λ (l : ℕ). Abreast (A .clock i) (A .clock l)) (ap actingBox y)
+            (are-abreast (A .clock i) (A .clock (actingBox (a .event))) z);
       }
 
   by-clocks : (A : Apart) → Inv (begunField f t left) A → (steps : List Step) → orderlyBy (f .nodes) (A .clock) steps ≡ true

@@ -16,7 +16,7 @@ use Rattle.node.specs.declared.Config.{Config}
 use Rattle.node.specs.declared.Answer.{Answer}
 use Rattle.site.specs.declared.Event.the-variants.{Close, End}
 use Rattle.boxes.specs.field.Field.{Field, Act, closeBox, endBox, nextField, fieldAfter, fieldRun, fieldAnswers}
-use Rattle.apart.specs.Apart.{negotiation, lastPhase, actor, tickBox, between, sorted, betweenAnswers, sortedAnswers}
+use Rattle.apart.specs.Apart.{negotiation, lastPhase, actingBox, tickBox, between, sorted, betweenAnswers, sortedAnswers}
 use Rattle.apart.proofs.Local.{Like, within, Within, run-like, answers-append, run-append, run-snoc, but, but-is, is-but, Kept}
 use Rattle.apart.proofs.Local.{kept-after, kept-run, anyone, else-after, Quiet, quiet}
 
@@ -198,15 +198,15 @@ module _ (log : ℕ → List Act) (x : Field) (u : ℕ) (a : Act) where
 
   -- the phases behind it, if the box whose event it is has not come to them
   module _ (n : x .negotiates ≡ true) (w : (s : ℕ) → Within anyone (log s)) (one : within anyone (a .event) ≡ true)
-      (off : (s : ℕ) → u < s → Within (but (actor (a .event))) (log s)) where
+      (off : (s : ℕ) → u < s → Within (but (actingBox (a .event))) (log s)) where
     abbrev P : ℕ → Bool
-    P = but (actor (a .event))
+    P = but (actingBox (a .event))
 
     run-on : (s : ℕ) → u < s → Like P (start log x s) (start longer x s) → Like P (sync log x s) (sync longer x s)
     run-on s h l = rw (sync-is log x s, sync-is longer x s, longer-else s (λ e. omega arith)) (run-like (log s) _ _ (off s h) l)
 
-    flip : (k : ℕ) → P k ≡ true → but k (actor (a .event)) ≡ true
-    flip k p = is-but (actor (a .event)) k (λ e. but-is k (actor (a .event)) p (sym e))
+    flip : (k : ℕ) → P k ≡ true → but k (actingBox (a .event)) ≡ true
+    flip k p = is-but (actingBox (a .event)) k (λ e. but-is k (actingBox (a .event)) p (sym e))
 
     start-next : Like P (fieldRun (sync log x u) (between u)) (fieldRun (sync longer x u) (between u))
     start-next =

@@ -22,14 +22,14 @@ use Rattle.boxes.specs.field.Claim.{Begins, ReportsAgree, SlotsApart, SlotsAsRe
 use Rattle.boxes.proofs.field.Theorem.{field-holds}
 use Rattle.apart.specs.Apart.{Step, Apart, negotiation, boxNow, tickBox, apartAfter, apartRun, between, sorted, sortedBefore}
 use Rattle.apart.specs.Apart.{begunApart}
-use Rattle.apart.specs.Determined.{placeOf, startOf, Negotiates}
+use Rattle.apart.specs.Determined.{placeOfPhase, startOf, Negotiates}
 use Rattle.apart.specs.Time.{calls, AllInStep}
 use Rattle.apart.specs.Claim.{AsOne, stays, allStay, SameReading, Reads, Gets, Knows, by-read, by-slots, Uses, Works, Abreast}
 use Rattle.apart.specs.Claim.{AllAbreast, Replays, readingIn, ApartDemand3, ApartHolds}
 use Rattle.apart.proofs.Keeps.{Inv, keeps, keeps-run, keeps-begun}
 use Rattle.apart.proofs.Sync.{tick-box, sync-phase, sync-answers}
 use Rattle.apart.proofs.Local.{run-append}
-use Rattle.apart.proofs.Determined.{place-is, begun-place, begun-config, have-come, all-grounded, all-unique, config-now, up-known}
+use Rattle.apart.proofs.Determined.{place-is, begun-place, begun-config, have-come, all-justified, all-unique, config-now, up-known}
 use Rattle.apart.proofs.Determined.{up-inside}
 use Rattle.apart.proofs.Time.{same-round, keeps-time}
 use Rattle.apart.proofs.Windows.{want-and-end}
@@ -69,7 +69,7 @@ module _ (f : Config) (t : Table) (left : ℕ → List ℕ) (b : Begins f t left
         starts = started;
         phase = λ s. v .each s .negotiates ∙ sync-phase (A .log) (begunField f t left) (v .begun) (v .some) s;
         place = λ s. v .each s .place ∙ place-is (begunField f t left) (v .begun) (A .log) (v .some) (begun-place f t left b) s
-            ∙ ap (λ (g : Config). placeOf g s) (begun-config f t left b);
+            ∙ ap (λ (g : Config). placeOfPhase g s) (begun-config f t left b);
         answers = sync-answers (A .log) (A .answers) (begunField f t left) (v .begun) (v .some) (v .answers);
         demand3 = λ s. field-holds .demand3 f t left b (sorted (A .log) s);
       }
@@ -165,7 +165,7 @@ module _ (f : Config) (t : Table) (left : ℕ → List ℕ) (b : Begins f t left
     as-one = one;
     agreement = agree;
     masks = slots-apart;
-    grounded = λ u. all-grounded f t left b u A v;
+    justified = λ u. all-justified f t left b u A v;
     came = λ u. have-come f t left b u A v;
     unique = λ u. all-unique f t left b u A v;
     replayed = shown;

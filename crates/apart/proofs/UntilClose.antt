@@ -36,9 +36,9 @@ use Rattle.node.specs.Figures.{flagsOk}
 use Rattle.site.specs.Members.{setupOf, outside}
 use Rattle.site.specs.declared.Event.{Event}
 use Rattle.site.specs.declared.Event.the-variants.{Send, Hear, Close, Take, End, Want, Crash, Restart}
-use Rattle.boxes.specs.field.Field.{Box, Field, Act, zeros, versionIn, ownersIn, phaseIn, live, packet, change, fieldTake, fieldRestart}
+use Rattle.boxes.specs.field.Field.{Box, Field, Act, zeros, versionIn, boxOwners, boxPhase, live, packet, change, fieldTake, fieldRestart}
 use Rattle.boxes.specs.field.Field.{fieldAnswer, nextField, fieldAfter}
-use Rattle.apart.specs.Apart.{Step, tick, act, Apart, boxNow, actor, possible, acted, ticked, apartAfter, apartRun}
+use Rattle.apart.specs.Apart.{Step, tick, act, Apart, boxNow, actingBox, possible, acted, ticked, apartAfter, apartRun}
 use Rattle.apart.specs.Claim.{SameReading, noCrash, stays, allStay}
 use Rattle.apart.proofs.Local.{within, anyone, but-is}
 use Rattle.apart.proofs.Near.{possible-any, acted-clock, clock-else, now-same}
@@ -65,8 +65,8 @@ module _ (a : List ℕ) (v : valid a ≡ true) where
         record {
           up = refl;
           version = ap versionIn next-is ∙ host.version-in m r ∙ e ∙ sym (host.version-in n (range-of a v)) ∙ sym (ap versionIn read-is);
-          owners = ap ownersIn next-is ∙ host.owners-in m l ∙ g ∙ sym (host.owners-in n (lengths a)) ∙ sym (ap ownersIn read-is);
-          phase = ap phaseIn next-is ∙ host.phase-in m l ∙ ap phaseByte h ∙ sym (host.phase-in n (lengths a)) ∙ sym (ap phaseIn read-is);
+          owners = ap boxOwners next-is ∙ host.owners-in m l ∙ g ∙ sym (host.owners-in n (lengths a)) ∙ sym (ap boxOwners read-is);
+          phase = ap boxPhase next-is ∙ host.phase-in m l ∙ ap phaseByte h ∙ sym (host.phase-in n (lengths a)) ∙ sym (ap boxPhase read-is);
           answer = same-answer m n l r (lengths a) (range-of a v) j g h (zeros slotsSize)
               ∙ ap (λ (b : List ℕ). slotsAnswer b (zeros slotsSize)) (canonical a v);
           own = same-slots m n l r (lengths a) (range-of a v) j g h (zeros slotsSize)
@@ -191,14 +191,14 @@ module _ (A : Apart) (j : ℕ) (n : A .phases (A .clock j) .negotiates ≡ true)
           → SameReading (boxNow A j) (boxNow (cond t
           (record {
             clock = A .clock;
-            phases = λ s. cond (eqb s (A .clock (actor (a .event)))) (fieldAfter (A .phases s) a) (A .phases s);
-            log = λ s. cond (eqb s (A .clock (actor (a .event)))) (A .log s ++ (a ∷ [])) (A .log s);
-            answers = λ s. cond (eqb s (A .clock (actor (a .event)))) (A .answers s ++ (fieldAnswer (A .phases s) (a .event) ∷ []))
+            phases = λ s. cond (eqb s (A .clock (actingBox (a .event)))) (fieldAfter (A .phases s) a) (A .phases s);
+            log = λ s. cond (eqb s (A .clock (actingBox (a .event)))) (A .log s ++ (a ∷ [])) (A .log s);
+            answers = λ s. cond (eqb s (A .clock (actingBox (a .event)))) (A .answers s ++ (fieldAnswer (A .phases s) (a .event) ∷ []))
                 (A .answers s);
           })
           A) j)
       go false r = still (boxNow A j)
-      go true r = at (eqb c (A .clock (actor (a .event))))
+      go true r = at (eqb c (A .clock (actingBox (a .event))))
         where
           at : (t : Bool) → SameReading (boxNow A j) (cond t (fieldAfter (A .phases c) a) (A .phases c) .boxes j)
           at true = settled-after (A .phases c) j n u v a (possible-any A (a .event) r) s

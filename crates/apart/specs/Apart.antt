@@ -52,15 +52,15 @@ abbrev pub boxNow : Apart → ℕ → Box
 boxNow A j = A .phases (A .clock j) .boxes j
 
 -- the box whose event it is; a close and an end are events of no one box: they are ticks here
-abbrev pub actor : Event → ℕ
-actor (Send j) = j
-actor (Hear j p) = j
-actor Close = 0
-actor (Take j i) = j
-actor End = 0
-actor (Want j d) = j
-actor (Crash j) = j
-actor (Restart j flags) = j
+abbrev pub actingBox : Event → ℕ
+actingBox (Send j) = j
+actingBox (Hear j p) = j
+actingBox Close = 0
+actingBox (Take j i) = j
+actingBox End = 0
+actingBox (Want j d) = j
+actingBox (Crash j) = j
+actingBox (Restart j flags) = j
 
 -- whether a step with this event is possible at all: nothing can be taken from a box whose clock has not come to the taker's phase
 abbrev pub possible : Apart → Event → Bool
@@ -79,9 +79,9 @@ acted A a =
     cond (possible A (a .event))
     (record {
       clock = A .clock;
-      phases = λ s. cond (eqb s (A .clock (actor (a .event)))) (fieldAfter (A .phases s) a) (A .phases s);
-      log = λ s. cond (eqb s (A .clock (actor (a .event)))) (A .log s ++ (a ∷ [])) (A .log s);
-      answers = λ s. cond (eqb s (A .clock (actor (a .event)))) (A .answers s ++ (fieldAnswer (A .phases s) (a .event) ∷ []))
+      phases = λ s. cond (eqb s (A .clock (actingBox (a .event)))) (fieldAfter (A .phases s) a) (A .phases s);
+      log = λ s. cond (eqb s (A .clock (actingBox (a .event)))) (A .log s ++ (a ∷ [])) (A .log s);
+      answers = λ s. cond (eqb s (A .clock (actingBox (a .event)))) (A .answers s ++ (fieldAnswer (A .phases s) (a .event) ∷ []))
           (A .answers s);
     })
     A

@@ -28,16 +28,16 @@ use Rattle.site.specs.Steps.{endMember}
 use Rattle.windows.specs.declared.Window.{Window}
 use Rattle.machine.specs.hours.Hours.{givenMember}
 use Rattle.lookup.specs.Lookup.{demandAnswer, demandAfter}
-use Rattle.boxes.specs.service.Service.{memberOf}
+use Rattle.boxes.specs.service.Service.{boxMember}
 use Rattle.traces.specs.Reached.{begin}
 use Rattle.agreement.specs.Demand.{final}
-use Rattle.boxes.specs.field.Field.{Box, Act, zeros, reading, versionIn, ownersIn, slotIn, phaseIn, ownIn, senderIn, live, sends}
+use Rattle.boxes.specs.field.Field.{Box, Act, zeros, reading, versionIn, boxOwners, slotIn, boxPhase, boxSlots, senderIn, live, sends}
 use Rattle.boxes.specs.field.Field.{fieldAnswers}
 use Rattle.boxes.specs.field.Field.{begunField}
-use Rattle.boxes.specs.field.Claim.{Begins, ReportsAgree, SlotsApart, SlotsAsRead, BoxGrounded, SameBoxDetermination, Shows, siteAnswers}
+use Rattle.boxes.specs.field.Claim.{Begins, ReportsAgree, SlotsApart, SlotsAsRead, BoxJustified, SameBoxDetermination, Shows, siteAnswers}
 use Rattle.boxes.specs.field.Claim.{events}
 use Rattle.boxes.specs.field.Claim.{fieldFinal, FieldDemand3}
-use Rattle.apart.specs.Determined.{placeOf, epochOf, startOf, nodeIn, Negotiates, Determines, determined}
+use Rattle.apart.specs.Determined.{placeOfPhase, epochOf, startOf, nodeInPhase, Negotiates, Determines, determined}
 use Rattle.apart.specs.Time.{AllInStep, Timetable, AllOnTime, KeepsTime}
 use Rattle.apart.specs.Apart.{Step, tick, act, Apart, negotiation, lastPhase, boxNow, apartAfter, apartRun, sorted, sortedBefore}
 use Rattle.apart.specs.Apart.{sortedAnswers, begunApart}
@@ -50,7 +50,7 @@ pub record AsOne (f : Config) (t : Table) (left : ℕ → List ℕ) (A : Apart) 
   pub starts : (s j : ℕ) → s ≤ A .clock j → startOf f t left A s j ≡ fieldFinal f t left (sortedBefore (A .log) s) .boxes j
   -- the number of a phase tells whether it is a negotiation, and its place in the epoch
   pub phase : (s : ℕ) → A .phases s .negotiates ≡ negotiation s
-  pub place : (s : ℕ) → A .phases s .place ≡ placeOf f s
+  pub place : (s : ℕ) → A .phases s .place ≡ placeOfPhase f s
   -- each event has the answer that it has in the sorted list
   pub answers : (s : ℕ) → fieldAnswers (begunField f t left) (sorted (A .log) s) ≡ sortedAnswers (A .answers) s
   pub demand3 : (s : ℕ) → FieldDemand3 f t left (sorted (A .log) s)
@@ -59,10 +59,10 @@ pub record AsOne (f : Config) (t : Table) (left : ℕ → List ℕ) (A : Apart) 
 pub record SameReading (b c : Box) : Type 0 where
   pub up : c .up ≡ b .up
   pub version : versionIn (reading c) ≡ versionIn (reading b)
-  pub owners : ownersIn (reading c) ≡ ownersIn (reading b)
-  pub phase : phaseIn (reading c) ≡ phaseIn (reading b)
+  pub owners : boxOwners (reading c) ≡ boxOwners (reading b)
+  pub phase : boxPhase (reading c) ≡ boxPhase (reading b)
   pub answer : slotsAnswer (c .area) (zeros slotsSize) ≡ slotsAnswer (b .area) (zeros slotsSize)
-  pub own : ownIn c ≡ ownIn b
+  pub own : boxSlots c ≡ boxSlots b
 
 -- steps in which the clock of box j does not go on and box j does not crash
 abbrev pub noCrash : ℕ → Event → Bool
@@ -96,7 +96,7 @@ pub record Gets (A : Apart) (j k : ℕ) : Type 0 where
   pub numbered : 1 ≤ j
   pub up : boxNow A j .up ≡ true
   pub answer : slotsAnswer (boxNow A j .area) (zeros slotsSize) ≡ Done
-  pub has : toldSlot (ownIn (boxNow A j)) k ≡ true
+  pub has : toldSlot (boxSlots (boxNow A j)) k ≡ true
 
 -- a service knows by either call that the slot is its box's own
 pub data Knows (A : Apart) (j k : ℕ) : Type 0 where
@@ -116,7 +116,7 @@ pub record Works (A : Apart) (j : ℕ) : Type 0 where
   -- a box that is up holds a node, so that no call on it is refused as 14
   pub node : boxNow A j .up ≡ true → valid (boxNow A j .area) ≡ true
   -- a live one is in the phase of its clock, so that no call in its turn is refused as 4
-  pub phase : live (boxNow A j) ≡ true → eqb (phaseIn (reading (boxNow A j))) 0 ≡ negotiation (A .clock j)
+  pub phase : live (boxNow A j) ≡ true → eqb (boxPhase (reading (boxNow A j))) 0 ≡ negotiation (A .clock j)
   -- its close and its end are done
   pub closes : negotiation (A .clock j) ≡ true → live (boxNow A j) ≡ true
       → closingOf (boxNow A j .area) (boxNow A j .out) (zeros groundSize) ≡ Done
@@ -177,8 +177,8 @@ pub record ApartDemand3 (f : Config) (t : Table) (left : ℕ → List ℕ) (A : 
       → SlotsApart (A .phases s .boxes i) (A .phases s .boxes j)
   -- a version that a box determines rests on a majority of the N boxes, each with the request that the box held at its own start of this
   -- round, at the version just below; and each of these boxes has come to this round
-  pub grounded : f .split ≡ 0 → (s j : ℕ) → Determines f A s j → BoxGrounded (f .nodes) (determined f t left A s j)
-  pub came : f .split ≡ 0 → (s j k : ℕ) → Determines f A s j → isIn (nodeIn A s j .round .merged) k ≡ true → s ≤ A .clock k
+  pub justified : f .split ≡ 0 → (s j : ℕ) → Determines f A s j → BoxJustified (f .nodes) (determined f t left A s j)
+  pub came : f .split ≡ 0 → (s j k : ℕ) → Determines f A s j → isIn (nodeInPhase A s j .round .merged) k ≡ true → s ≤ A .clock k
   -- two boxes that determine in one epoch, in whichever rounds, determine the same
   pub unique : f .split ≡ 0 → (s i r j : ℕ) → Determines f A s i → Determines f A r j → epochOf f s ≡ epochOf f r
       → SameBoxDetermination (determined f t left A s i) (determined f t left A r j)
@@ -230,4 +230,4 @@ pub record ApartHolds : Type 0 where
       → boxNow (apartRun (begunApart f t left) steps) j .up ≡ true → lastPhase (apartRun (begunApart f t left) steps .clock j) ≡ true
       → boxNow (apartRun (apartRun (begunApart f t left) steps) (wantBy (f .nodes) D ws e j
       (boxNow (apartRun (begunApart f t left) steps) j) ∷ tick j ∷ [])) j .area
-      ≡ encoded (endMember (givenMember ws e j (memberOf (boxNow (apartRun (begunApart f t left) steps) j .area))) .node)
+      ≡ encoded (endMember (givenMember ws e j (boxMember (boxNow (apartRun (begunApart f t left) steps) j .area))) .node)

@@ -15,13 +15,13 @@ use Rattle.boxes.specs.field.Past.{BoxDetermination}
 use Rattle.apart.specs.Apart.{Apart, negotiation, lastPhase, tickBox}
 
 -- the place f of a phase, and how many epochs have ended before it
-unfoldable pub placeOf : Config → ℕ → ℕ
-placeOf f zero = 0
-placeOf f (suc s) = cond (lastPhase s) (cond (isLast f (placeOf f s)) 0 (placeOf f s + 1)) (placeOf f s)
+unfoldable pub placeOfPhase : Config → ℕ → ℕ
+placeOfPhase f zero = 0
+placeOfPhase f (suc s) = cond (lastPhase s) (cond (isLast f (placeOfPhase f s)) 0 (placeOfPhase f s + 1)) (placeOfPhase f s)
 
 unfoldable pub epochOf : Config → ℕ → ℕ
 epochOf f zero = 0
-epochOf f (suc s) = cond (lastPhase s) (cond (isLast f (placeOf f s)) (suc (epochOf f s)) (epochOf f s)) (epochOf f s)
+epochOf f (suc s) = cond (lastPhase s) (cond (isLast f (placeOfPhase f s)) (suc (epochOf f s)) (epochOf f s)) (epochOf f s)
 
 -- box k as it was at its own start of phase s: as it was begun, or as going on from the phase before left it
 abbrev pub startOf : Config → Table → (ℕ → List ℕ) → Apart → ℕ → ℕ → Box
@@ -29,8 +29,8 @@ startOf f t left A zero k = begunField f t left .boxes k
 startOf f t left A (suc s) k = tickBox s (A .phases s .boxes k)
 
 -- the node of box j as it last was in phase s
-abbrev pub nodeIn : Apart → ℕ → ℕ → Node
-nodeIn A s j = decoded (A .phases s .boxes j .area)
+abbrev pub nodeInPhase : Apart → ℕ → ℕ → Node
+nodeInPhase A s j = decoded (A .phases s .boxes j .area)
 
 -- box j has come to the negotiation of phase s, and is live as it last was in it
 pub record Negotiates (A : Apart) (s j : ℕ) : Type 0 where
@@ -43,7 +43,7 @@ pub record Negotiates (A : Apart) (s j : ℕ) : Type 0 where
 pub record Determines (f : Config) (A : Apart) (s j : ℕ) : Type 0 where
   pub negotiates : Negotiates A s j
   pub number : j ≤ f .nodes
-  pub determines : determines (nodeIn A s j) ≡ true
+  pub determines : determines (nodeInPhase A s j) ≡ true
 
 -- what it determined
 abbrev pub determined : Config → Table → (ℕ → List ℕ) → Apart → ℕ → ℕ → BoxDetermination
@@ -52,8 +52,8 @@ determined f t left A s j =
       epoch = epochOf f s;
       start = startOf f t left A s;
       node = j;
-      version = nodeIn A s j .version + 1;
-      schedule = newSchedule (nodeIn A s j);
-      nodes = nodeIn A s j .round .merged;
-      requests = nodeIn A s j .round .known;
+      version = nodeInPhase A s j .version + 1;
+      schedule = newSchedule (nodeInPhase A s j);
+      nodes = nodeInPhase A s j .round .merged;
+      requests = nodeInPhase A s j .round .known;
     }

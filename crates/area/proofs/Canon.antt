@@ -18,7 +18,7 @@ use Rattle.lists.proofs.Laws.{same-eq, same-refl, word-bytes, length-flat, leng
 use Rattle.allotment.specs.Allotment.{ownersOf}
 use Rattle.allotment.specs.Model.{Schedule}
 use Rattle.allotment.proofs.Schedules.{owners-made}
-use Rattle.masks.specs.Slots.{ownersIn, tidy}
+use Rattle.masks.specs.Slots.{ownersIn, wellFormed}
 use Rattle.masks.proofs.Owners.{length-owners}
 use Rattle.range.specs.Range.{scheduleOk, inRange}
 use Rattle.range.proofs.Ranges.{ranges}
@@ -34,7 +34,7 @@ use Rattle.masks.proofs.Parts.{byte-then, word-then, list-then}
 use Rattle.allotment.specs.InPlace.{heldBytes, heldIn}
 use Rattle.area.specs.Area.{nodeSize, atNode, atNodes, atSlots, atRounds, atMinHeard, atSplit, atVersion, atFlags, atMerged, atLowest}
 use Rattle.area.specs.Area.{atHighest, atHeard, atMet, atPlace, atDemand, atRequest, atPhase, atUpdated, atSchedule, atKnown}
-use Rattle.area.specs.Area.{atCounts, atDetermined, wordsOf, encoded, decoded, valid}
+use Rattle.area.specs.Area.{atCounters, atDetermined, wordsOf, encoded, decoded, valid}
 use Rattle.area.specs.Steps.{areaFits}
 use Rattle.area.proofs.Valid.{right-size}
 use Rattle.allotment.proofs.Held.{length-held, held-back}
@@ -57,14 +57,15 @@ mark-byte-low false = omega arith
 around : List ℕ → ℕ → ℕ → List ℕ
 around a p u =
     flat (wordsOf (decoded a)) ++ ((getD a atDemand 0 ∷ getD a atRequest 0 ∷ p ∷ u ∷ [])
-    ++ (window 32 a atKnown ++ (window 32 a atCounts ++ (heldBytes (heldIn a atSchedule) ++ heldBytes (heldIn a atDetermined)))))
+    ++ (window 32 a atKnown ++ (window 32 a atCounters ++ (heldBytes (heldIn a atSchedule) ++ heldBytes (heldIn a atDetermined)))))
 
 encoded-around : (a : List ℕ) → encoded (decoded a)
     ≡ around a (phaseByte (phaseOf (getD a atPhase 0))) (boolByte (eqb (getD a atUpdated 0) 1))
 unfolding encoded decoded around
 encoded-around a = refl
 
-around-is : (a : List ℕ) → length a ≡ nodeSize → Bytes a → tidy (masksIn a atSchedule) ≡ true → tidy (masksIn a atDetermined) ≡ true
+around-is : (a : List ℕ) → length a ≡ nodeSize → Bytes a → wellFormed (masksIn a atSchedule) ≡ true
+    → wellFormed (masksIn a atDetermined) ≡ true
     → around a (getD a atPhase 0) (getD a atUpdated 0) ≡ a
 unfolding around flat decoded
 around-is a h b y z =
@@ -88,8 +89,8 @@ around-is a h b y z =
     (byte-then a atRequest atPhase _ (omega arith) refl
     (byte-then a atPhase atUpdated _ (omega arith) refl
     (byte-then a atUpdated atKnown _ (omega arith) refl
-    (list-then a 32 atKnown atCounts _ (omega arith) refl
-    (list-then a 32 atCounts atSchedule _ (omega arith) refl
+    (list-then a 32 atKnown atCounters _ (omega arith) refl
+    (list-then a 32 atCounters atSchedule _ (omega arith) refl
     (held-then a atSchedule atDetermined _ b (omega arith) refl y
     (sym (append-nil (heldBytes (heldIn a atDetermined)))
     ∙ held-then a atDetermined nodeSize [] b (omega arith) refl z
@@ -110,7 +111,7 @@ lengths a =
     record {
       schedule = ap length (owners-made (ownersIn (masksIn a atSchedule))) ∙ length-owners (masksIn a atSchedule);
       known = length-tab 32 _;
-      counts = length-tab 32 _;
+      counters = length-tab 32 _;
       determined = ap length (owners-made (ownersIn (masksIn a atDetermined))) ∙ length-owners (masksIn a atDetermined);
     }
 
@@ -124,9 +125,9 @@ unfolding encoded flat
 schedule-at n l =
     let s = heldBytes (n .schedule) in
     let r = n .round .known in
-    let c = n .epoch .counts in
+    let c = n .epoch .counters in
     let d = heldBytes (n .epoch .determined) in
-    past r (c ++ (s ++ d)) 32 32 64 (l .known) refl ∙ past c (s ++ d) 32 0 32 (l .counts) refl
+    past r (c ++ (s ++ d)) 32 32 64 (l .known) refl ∙ past c (s ++ d) 32 0 32 (l .counters) refl
 
 pub determined-at : (n : Node) → Lengths n → drop atDetermined (encoded n) ≡ heldBytes (n .epoch .determined) ++ []
 determined-at n l =
@@ -141,9 +142,10 @@ each-way true b f g = sym (f refl)
 each-way false true f g = g refl
 each-way false false f g = refl
 
--- only the bytes of the phase and of the mark have values that no node has, and masks that are not tidy are no schedule's
+-- only the bytes of the phase and of the mark have values that no node has, and masks that are not well formed are no schedule's
 pub plain-is : (a : List ℕ) → length a ≡ nodeSize → Bytes a
-    → ((leb (getD a atPhase 0) 3 && leb (getD a atUpdated 0) 1) && (tidy (masksIn a atSchedule) && tidy (masksIn a atDetermined)))
+    → ((leb (getD a atPhase 0) 3 && leb (getD a atUpdated 0) 1)
+    && (wellFormed (masksIn a atSchedule) && wellFormed (masksIn a atDetermined)))
     ≡ same (encoded (decoded a)) a
 plain-is a h b =
     each-way _ (same (encoded (decoded a)) a)
@@ -174,10 +176,10 @@ plain-is a h b =
     u = getD a atUpdated 0
 
     y : Bool
-    y = tidy (masksIn a atSchedule)
+    y = wellFormed (masksIn a atSchedule)
 
     z : Bool
-    z = tidy (masksIn a atDetermined)
+    z = wellFormed (masksIn a atDetermined)
 
 -- an area is valid where its two marks, the node but for the schedules and the masks are
 pub fits-valid : (a : List ℕ) → length a ≡ nodeSize → Bytes a
@@ -190,8 +192,8 @@ fits-valid a h b =
     ap (λ (t : Bool). (leb p 3 && leb u 1) && (inRange (bare (coreOf n)) && t))
     (both (held-fit a atSchedule k (n .setup .config .nodes) (omega (arith, h)))
     (held-fit a atDetermined j (n .setup .config .nodes) (omega (arith, h))))
-    ∙ grouped (leb p 3 && leb u 1) (inRange (bare (coreOf n))) (tidy (masksIn a atSchedule))
-    (scheduleOk (heldIn a atSchedule) (ltb 0 (n .version)) (n .setup)) (tidy (masksIn a atDetermined))
+    ∙ grouped (leb p 3 && leb u 1) (inRange (bare (coreOf n))) (wellFormed (masksIn a atSchedule))
+    (scheduleOk (heldIn a atSchedule) (ltb 0 (n .version)) (n .setup)) (wellFormed (masksIn a atDetermined))
     (scheduleOk (heldIn a atDetermined) (n .epoch .updated) (n .setup))
     ∙ both (sym (by-parts n)) (plain-is a h b) ∙ right-size a h
   where
@@ -224,7 +226,7 @@ canonical a h = same-eq _ _ (and-right (inRange (decoded a)) _ (and-right (eqb (
 pub length-encoded : (n : Node) → Lengths n → length (encoded n) ≡ nodeSize
 unfolding encoded
 length-encoded n l = simp (length-append, length-flat)
-    (omega (arith, length-held (n .schedule), l .known, l .counts, length-held (n .epoch .determined)))
+    (omega (arith, length-held (n .schedule), l .known, l .counters, length-held (n .epoch .determined)))
 
 mark-back : (b : Bool) → eqb (boolByte b) 1 ≡ b
 mark-back true = refl
@@ -251,7 +253,7 @@ round-trip n l h =
     let w = words n h in
     let s = heldBytes (n .schedule) in
     let r = n .round .known in
-    let c = n .epoch .counts in
+    let c = n .epoch .counters in
     let d = heldBytes (n .epoch .determined) in
     let z = length-encoded n l in
     let held = held-back (n .schedule) (l .schedule) (owners-small n (n .schedule) (ltb 0 (n .version)) h (ranges n h .schedule))
@@ -286,8 +288,9 @@ round-trip n l h =
         heard = word-bytes (n .round .heard) (w .heard) i;
       };
       epoch = record {
-        counts = read-at 32 (encoded n) c (s ++ d) atCounts (omega arith) (past r (c ++ (s ++ d)) 32 0 32 (l .known) refl) (l .counts) i;
-        met = word-bytes (n .epoch .met) (w .met) i;
+        counters = read-at 32 (encoded n) c (s ++ d) atCounters (omega arith)
+            (past r (c ++ (s ++ d)) 32 0 32 (l .known) refl) (l .counters) i;
+        interactions = word-bytes (n .epoch .interactions) (w .interactions) i;
         place = word-bytes (n .epoch .place) (w .place) i;
         updated = mark-back (n .epoch .updated) i;
         determined = next i;

@@ -13,8 +13,8 @@ use Rattle.words.proofs.Tests.{hit, both}
 use Rattle.words.proofs.Laws.{wordOf-ext, howMany-ext}
 use Rattle.masks.specs.Slots.{Masks}
 use Rattle.masks.specs.declared.NodeSlots.{NodeSlots}
-use Rattle.masks.specs.Slots.{holds, ownersIn, owns, masksOf, tidy}
-use Rattle.masks.specs.Bytes.{masksSize, masksIn, noOwn, ownOf, ownRead}
+use Rattle.masks.specs.Slots.{holds, ownersIn, owns, masksOf, wellFormed}
+use Rattle.masks.specs.Bytes.{masksSize, masksIn, noOwn, nodeSlotsOf, ownRead}
 use Rattle.masks.proofs.Owners.{Sized, made-sized, low-made, high-made, count-made, length-owners}
 use Rattle.masks.proofs.Tidy.{ones-holds, made-tidy, held-once, holds-owns, count-owned}
 use Rattle.masks.proofs.Rows.{masks-back}
@@ -37,8 +37,8 @@ module _ (a q : List ℕ) (at : ℕ) (e : drop at a ≡ heldBytes (heldIn a at) 
   unfolding m heldBytes
   same = masks-back (masksOf (ownersOf (heldIn a at))) (made-sized (ownersOf (heldIn a at))) a q at e
 
-  neat : tidy m ≡ true
-  neat = ap tidy same ∙ made-tidy (ownersOf (heldIn a at))
+  neat : wellFormed m ≡ true
+  neat = ap wellFormed same ∙ made-tidy (ownersOf (heldIn a at))
 
   whole : Sized m
   whole = subst Sized (sym same) (made-sized (ownersOf (heldIn a at)))
@@ -48,9 +48,9 @@ module _ (a q : List ℕ) (at : ℕ) (e : drop at a ≡ heldBytes (heldIn a at) 
   listed = owners-made (ownersIn (masksIn a at))
 
   -- how many slots of the list a node has
-  counts : (i : ℕ) → count (i + 1) (ownersOf (heldIn a at)) ≡ howMany 80 (owns (ownersIn m) i)
+  counters : (i : ℕ) → count (i + 1) (ownersOf (heldIn a at)) ≡ howMany 80 (owns (ownersIn m) i)
   unfolding count
-  counts i =
+  counters i =
       ap (count (i + 1)) listed ∙ count-is (i + 1) (count (i + 1)) refl (λ x l. refl) (ownersIn m)
       ∙ ap (λ (n : ℕ). howMany n (λ k. eqb (getD (ownersIn m) k 0) (i + 1))) (length-owners m)
 
@@ -63,7 +63,7 @@ module _ (a q : List ℕ) (at : ℕ) (e : drop at a ≡ heldBytes (heldIn a at) 
         apart = λ i j k l h b. held-once m neat i j k l h b;
         counted = λ i l. count-owned m neat whole i l
             ∙ howMany-ext 80 (owns (ownersIn m) i) (holds m i) (λ k b. sym (holds-owns m neat i k l b)) ∙ sym (ones-holds m whole i l);
-        owned = λ i l. count-owned m neat whole i l ∙ sym (counts i);
+        owned = λ i l. count-owned m neat whole i l ∙ sym (counters i);
       }
 
 -- the bytes of the schedule that an area holds, and what is behind them
@@ -87,7 +87,7 @@ given s j = record {
 }
 
 -- the masks of a schedule's owners hold of node j what the schedule gives to it
-given-is : (s : Schedule) (j : ℕ) → 1 ≤ j → j ≤ 32 → ownOf (masksOf (ownersOf s)) (j - 1) ≡ given s j
+given-is : (s : Schedule) (j : ℕ) → 1 ≤ j → j ≤ 32 → nodeSlotsOf (masksOf (ownersOf s)) (j - 1) ≡ given s j
 given-is s j l m =
     let o = ownersOf s in
     let b : j - 1 < 32 = omega (arith, l, m) in
@@ -104,13 +104,13 @@ unfolding decoded m
 masks-are a v = same a (heldBytes (decoded a .epoch .determined)) atSchedule (held-at a v)
 
 -- what is read of node j in an area: its row of the masks there,
-pub own-row : (a : List ℕ) → valid a ≡ true → (j : ℕ) → 1 ≤ j → j ≤ 32 → ownRead a atSchedule j ≡ ownOf (masksIn a atSchedule) (j - 1)
+pub own-row : (a : List ℕ) → valid a ≡ true → (j : ℕ) → 1 ≤ j → j ≤ 32 → ownRead a atSchedule j ≡ nodeSlotsOf (masksIn a atSchedule) (j - 1)
 unfolding ownRead
 own-row a v j l h =
     let z : length a ≡ nodeSize = size-of a v in
-    hit _ (ownOf (masksIn a atSchedule) (j - 1)) noOwn
+    hit _ (nodeSlotsOf (masksIn a atSchedule) (j - 1)) noOwn
     (both (le-leb (atSchedule + masksSize) (length a) (omega (arith, z))) (both (le-leb 1 j l) (le-leb j 32 h)))
 
 -- which is what the area's schedule gives to it
 pub own-is : (a : List ℕ) → valid a ≡ true → (j : ℕ) → 1 ≤ j → j ≤ 32 → ownRead a atSchedule j ≡ given (decoded a .schedule) j
-own-is a v j l h = own-row a v j l h ∙ ap (λ (x : Masks). ownOf x (j - 1)) (masks-are a v) ∙ given-is (decoded a .schedule) j l h
+own-is a v j l h = own-row a v j l h ∙ ap (λ (x : Masks). nodeSlotsOf x (j - 1)) (masks-are a v) ∙ given-is (decoded a .schedule) j l h

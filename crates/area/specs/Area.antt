@@ -79,8 +79,8 @@ atUpdated = 59
 abbrev pub atKnown : ℕ
 atKnown = 60
 
-abbrev pub atCounts : ℕ
-atCounts = 92
+abbrev pub atCounters : ℕ
+atCounters = 92
 
 abbrev pub atSchedule : ℕ
 atSchedule = 124
@@ -92,7 +92,7 @@ abbrev pub wordsOf : Node → List ℕ
 wordsOf n =
     n .setup .node ∷ n .setup .config .nodes ∷ n .setup .config .slots ∷ n .setup .config .rounds ∷ n .setup .config .«min_heard»
     ∷ n .setup .config .split ∷ n .version ∷ n .flags
-    ∷ n .round .merged ∷ n .round .lowest ∷ n .round .highest ∷ n .round .heard ∷ n .epoch .met ∷ n .epoch .place ∷ []
+    ∷ n .round .merged ∷ n .round .lowest ∷ n .round .highest ∷ n .round .heard ∷ n .epoch .interactions ∷ n .epoch .place ∷ []
 
 abbrev pub smallOf : Node → List ℕ
 smallOf n = n .demand ∷ n .request ∷ phaseByte (n .phase) ∷ boolByte (n .epoch .updated) ∷ []
@@ -100,11 +100,11 @@ smallOf n = n .demand ∷ n .request ∷ phaseByte (n .phase) ∷ boolByte (n .e
 -- what the library writes for a node
 unfoldable pub encoded : Node → List ℕ
 encoded n = flat (wordsOf n) ++ (smallOf n
-    ++ (n .round .known ++ (n .epoch .counts ++ (heldBytes (n .schedule) ++ heldBytes (n .epoch .determined)))))
+    ++ (n .round .known ++ (n .epoch .counters ++ (heldBytes (n .schedule) ++ heldBytes (n .epoch .determined)))))
 
 -- and before the schedules
 unfoldable pub frontOf : Node → List ℕ
-frontOf n = flat (wordsOf n) ++ (smallOf n ++ (n .round .known ++ n .epoch .counts))
+frontOf n = flat (wordsOf n) ++ (smallOf n ++ (n .round .known ++ n .epoch .counters))
 
 -- the node that bytes stand for, whatever they are, with these schedules
 abbrev pub decodedWith : List ℕ → Schedule → Schedule → Node
@@ -133,8 +133,8 @@ decodedWith a schedule determined =
         heard = word32 a atHeard;
       };
       epoch = record {
-        counts = window 32 a atCounts;
-        met = word32 a atMet;
+        counters = window 32 a atCounters;
+        interactions = word32 a atMet;
         place = word32 a atPlace;
         updated = eqb (getD a atUpdated 0) 1;
         determined = determined;

@@ -51,7 +51,7 @@ const HIGHEST: u32 = 40;
 
 const HEARD: u32 = 44;
 
-const MET: u32 = 48;
+const INTERACTIONS: u32 = 48;
 
 const PLACE: u32 = 52;
 
@@ -67,7 +67,7 @@ const UPDATED: usize = 59;
 // and the lists.
 const KNOWN: u32 = 60;
 
-const COUNTS: u32 = 92;
+const COUNTERS: u32 = 92;
 
 const SCHEDULE: u32 = 124;
 
@@ -92,7 +92,7 @@ fn decode(s: &[u8]) -> Core
     ensures { λ r. ⌜ r ≡ coreOf (decodedWith (now (s .entry)) free free) ⌝ }
 {
     let known = list_at(s, KNOWN);
-    let counts = list_at(s, COUNTS);
+    let counters = list_at(s, COUNTERS);
     Core {
         setup: Setup {
             node: lists::word(s, NODE),
@@ -116,8 +116,8 @@ fn decode(s: &[u8]) -> Core
             highest: lists::word(s, HIGHEST),
             heard: lists::word(s, HEARD),
         },
-        counts,
-        met: lists::word(s, MET),
+        counters,
+        interactions: lists::word(s, INTERACTIONS),
         place: lists::word(s, PLACE),
         updated: lists::byte(s, UPDATED) == 1,
     }
@@ -156,7 +156,7 @@ fn put_front(area: &mut [u8], c: Core)
     let r = c.round;
     let small = small_bytes(c);
     let known = r.known;
-    let counts = c.counts;
+    let counters = c.counters;
     let words = [
         s.node,
         s.config.nodes,
@@ -170,13 +170,13 @@ fn put_front(area: &mut [u8], c: Core)
         r.lowest,
         r.highest,
         r.heard,
-        c.met,
+        c.interactions,
         c.place,
     ];
     put_words(area, words);
     lists::put_bytes(area, DEMAND, &small);
     lists::put_bytes(area, KNOWN as usize, &known);
-    lists::put_bytes(area, COUNTS as usize, &counts);
+    lists::put_bytes(area, COUNTERS as usize, &counters);
 }
 
 // No node, and a blank one in its place.

@@ -17,11 +17,11 @@ use Rattle.node.specs.declared.Packet.{Packet}
 use Rattle.node.specs.declared.Answer.the-variants.{Done}
 use Rattle.node.proofs.Answers.{done-is}
 use Rattle.wire.specs.Layout.{packetIn}
-use Rattle.site.specs.Members.{channelOf, memberAt, withNode, put}
+use Rattle.site.specs.Members.{headerOf, memberAt, withNode, put}
 use Rattle.site.specs.Parts.{packetPart}
 use Rattle.site.specs.Answers.{answerOf}
 use Rattle.site.specs.Steps.{heardSite, nextSite, nextArea, siteAfter, areaAfter}
-use Rattle.site.specs.Run.{World, after, run}
+use Rattle.site.specs.Run.{RunState, after, run}
 use Rattle.node.specs.declared.Config.{Config}
 use Rattle.site.specs.Model.{Site}
 use Rattle.site.specs.declared.Event.{Event}
@@ -53,7 +53,7 @@ clear-back L r s area (Want j d) c = c
 clear-back L r s area (Crash j) c = record { over = c .over; crashed = or-neither (r .crashed) _ (c .crashed) .0 }
 clear-back L r s area (Restart j flags) c = c
 
-clear-step : (L : ℕ) (r : Watch) (w : World) (e : Event) → Clear (watchAfter L r w e) → Clear r
+clear-step : (L : ℕ) (r : Watch) (w : RunState) (e : Event) → Clear (watchAfter L r w e) → Clear r
 unfolding watchAfter
 clear-step L r w e c = go (isDone (answerOf (w .site) (w .area) e)) c
   where
@@ -61,7 +61,7 @@ clear-step L r w e c = go (isDone (answerOf (w .site) (w .area) e)) c
     go true c = clear-back L r (w .site) (w .area) e c
     go false c = c
 
-clear-start : (L : ℕ) (r : Watch) (w : World) (es : List Event) → Clear (watched L r w es) → Clear r
+clear-start : (L : ℕ) (r : Watch) (w : RunState) (es : List Event) → Clear (watched L r w es) → Clear r
 unfolding watched
 clear-start L r w [] c = c
 clear-start L r w (e ∷ es) c = clear-step L r w e (clear-start L (watchAfter L r w e) (after w e) es c)
@@ -76,7 +76,7 @@ module _ (f : Config) (L v : ℕ) (S : Schedule) (q : ℕ → ℕ) (small : f .n
     pub quiet : site.Quiet f L v S q s air r
 
   hear-quiet : (s : Site) (area : List ℕ) (air : List Packet) (r : Watch) (j p : ℕ)
-      → packetIn (packetPart (channelOf s) area p) ≡ getD air (p - 1) noPacket
+      → packetIn (packetPart (headerOf s) area p) ≡ getD air (p - 1) noPacket
       → site.Quiet f L v S q (put s j (withNode (memberAt s j) (heardNode (memberAt s j .node) (getD air (p - 1) noPacket)))) air (record {
         heard = set (r .heard) (j - 1) (withBit (getD (r .heard) (j - 1) 0) (getD air (p - 1) noPacket .sender - 1));
         full = r .full;
@@ -166,7 +166,7 @@ module _ (f : Config) (L v : ℕ) (S : Schedule) (q : ℕ → ℕ) (small : f .n
         quiet = site.quiet-restart f L v S q small fits enough below asks j flags (a .down) (h .quiet);
       }
 
-  goes-on : (w : World) (r : Watch) (e : Event) → Going r (w .site) (w .area) → Clear (watchAfter L r w e)
+  goes-on : (w : RunState) (r : Watch) (e : Event) → Going r (w .site) (w .area) → Clear (watchAfter L r w e)
       → Going (watchAfter L r w e) (after w e .site) (after w e .area)
   unfolding watchAfter siteAfter areaAfter
   goes-on w r e h c = go (isDone (answerOf (w .site) (w .area) e)) refl c
@@ -177,7 +177,7 @@ module _ (f : Config) (L v : ℕ) (S : Schedule) (q : ℕ → ℕ) (small : f .n
       go true d c = goes r (w .site) (w .area) e h (done-is _ d) c
       go false d c = h
 
-  pub goes-through : (w : World) (r : Watch) (es : List Event) → Going r (w .site) (w .area) → Clear (watched L r w es)
+  pub goes-through : (w : RunState) (r : Watch) (es : List Event) → Going r (w .site) (w .area) → Clear (watched L r w es)
       → Going (watched L r w es) (run w es .site) (run w es .area)
   unfolding watched run
   goes-through w r [] h c = h

@@ -17,7 +17,7 @@ use Rattle.membership.specs.requests.Requests.{requesters}
 use Rattle.membership.specs.counters.Counters.{withSelf}
 use Rattle.membership.proofs.counters.Laws.{with-self}
 use Rattle.node.specs.Close.{complete}
-use Rattle.node.specs.End.{interactions, expires}
+use Rattle.node.specs.End.{interactedWith, expires}
 use Rattle.node.specs.declared.Setup.{Setup}
 use Rattle.node.specs.Model.{Node}
 use Rattle.node.specs.declared.Answer.the-variants.{Done}
@@ -46,9 +46,10 @@ module _ (f : Config) (L : ℕ) (small : f .nodes ≤ 32) (fits : L < 2 ^ f .nod
       (either suffices (λ e. inl (ap (λ (s : Setup). s .config .split) u ∙ e))
       (λ k. inr (subst (λ (w : ℕ). n .setup .config .nodes < 2 * size w) (sym m) (omega (arith, k))))))
 
-  lasts : (i : ℕ) (n : Node) → In L i → n .setup ≡ setupOf f (suc i) → n .epoch .met < 2 ^ f .nodes
-      → ((k : ℕ) → In L k → In (n .epoch .met) k ⊎ (k ≡ i)) → expires n ≡ false
-  lasts i n h u w met = kept-if n (enough-if (n .setup .config) (interactions n) (omega (arith, N, in-N i h)) (omega (arith, N, small))
+  lasts : (i : ℕ) (n : Node) → In L i → n .setup ≡ setupOf f (suc i) → n .epoch .interactions < 2 ^ f .nodes
+      → ((k : ℕ) → In L k → In (n .epoch .interactions) k ⊎ (k ≡ i)) → expires n ≡ false
+  lasts i n h u w interactions =
+      kept-if n (enough-if (n .setup .config) (interactedWith n) (omega (arith, N, in-N i h)) (omega (arith, N, small))
       (either suffices (λ e. inl (ap (λ (s : Setup). s .config .split) u ∙ e))
       (λ k. inr (subst (λ (x : ℕ). n .setup .config .nodes < 2 * size x) (sym (counts-self n ∙ whole)) (omega (arith, N, counted, k))))))
     where
@@ -59,17 +60,18 @@ module _ (f : Config) (L : ℕ) (small : f .nodes ≤ 32) (fits : L < 2 ^ f .nod
       in-N k m = in-lt (f .nodes) L k fits m
 
       X : ℕ
-      X = bitOr (n .epoch .met) (2 ^ i)
+      X = bitOr (n .epoch .interactions) (2 ^ i)
 
-      whole : withSelf (n .epoch .met) (n .setup .node) ≡ X
-      whole = ap (λ (s : Setup). withSelf (n .epoch .met) (s .node)) u ∙ with-self (n .epoch .met) i (omega (arith, in-N i h, small))
+      whole : withSelf (n .epoch .interactions) (n .setup .node) ≡ X
+      whole = ap (λ (s : Setup). withSelf (n .epoch .interactions) (s .node)) u
+          ∙ with-self (n .epoch .interactions) i (omega (arith, in-N i h, small))
 
       below-N : X < 2 ^ f .nodes
-      below-N = or-lt (f .nodes) (n .epoch .met) (2 ^ i) w (pow-lt (in-N i h))
+      below-N = or-lt (f .nodes) (n .epoch .interactions) (2 ^ i) w (pow-lt (in-N i h))
 
       counted : size L ≤ size X
-      counted = size-le (f .nodes) L X fits below-N (λ k m. either (met k m) (in-or-l (n .epoch .met) (2 ^ i))
-          (λ e. in-or-r (n .epoch .met) (2 ^ i) (record {
+      counted = size-le (f .nodes) L X fits below-N (λ k m. either (interactions k m) (in-or-l (n .epoch .interactions) (2 ^ i))
+          (λ e. in-or-r (n .epoch .interactions) (2 ^ i) (record {
             is = hasBit-power i k (omega (arith, in-N i h, small)) (omega (arith, in-N k m, small)) ∙ eq-eqb k i e;
           })))
 

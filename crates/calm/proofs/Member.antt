@@ -48,8 +48,8 @@ use Rattle.traces.proofs.Sets.{In, in?, in-or, in-or-l, in-or-r, in-lt, in-none
 pub record Enough (f : Config) (L : ℕ) : Type 0 where
   pub decides : (i : ℕ) (n : Node) → In L i → n .setup ≡ setupOf f (suc i) → n .round .merged ≡ L
       → isInside (n .round .merged) (requesters (n .round .known)) ≡ true → complete n ≡ true
-  pub lasts : (i : ℕ) (n : Node) → In L i → n .setup ≡ setupOf f (suc i) → n .epoch .met < 2 ^ f .nodes
-      → ((k : ℕ) → In L k → In (n .epoch .met) k ⊎ (k ≡ i)) → expires n ≡ false
+  pub lasts : (i : ℕ) (n : Node) → In L i → n .setup ≡ setupOf f (suc i) → n .epoch .interactions < 2 ^ f .nodes
+      → ((k : ℕ) → In L k → In (n .epoch .interactions) k ⊎ (k ≡ i)) → expires n ≡ false
 
 -- the epoch: its figures, members, version, schedule and requests
 module _ (f : Config) (L v : ℕ) (S : Schedule) (q : ℕ → ℕ) where
@@ -85,13 +85,13 @@ module _ (f : Config) (L v : ℕ) (S : Schedule) (q : ℕ → ℕ) where
     pub silent : sending (n .phase) ≡ false
     pub mark : n .epoch .updated ≡ true → n .epoch .determined ≡ fresh
     pub done : 0 < full → n .epoch .updated ≡ true
-    pub met : 0 < full → (k : ℕ) → In L k → In (n .epoch .met) k ⊎ (k ≡ i)
+    pub interactions : 0 < full → (k : ℕ) → In L k → In (n .epoch .interactions) k ⊎ (k ≡ i)
     pub seen : neg ≡ true → SeenBy i n
-    pub heard : neg ≡ true → (k : ℕ) → k < 32 → In ear k → (getD (n .round .known) k 0 ≡ q k) × In (n .epoch .met) k
+    pub heard : neg ≡ true → (k : ℕ) → k < 32 → In ear k → (getD (n .round .known) k 0 ≡ q k) × In (n .epoch .interactions) k
         × In (n .round .heard) k
     pub only : neg ≡ true → (k : ℕ) → In (n .round .heard) k → In L k
-    pub often : (k : ℕ) → In L k → (full ≤ getD (n .epoch .counts) k 0) ⊎ (k ≡ i)
-    pub other : (k : ℕ) → k < 32 → (In L k → ⊥) → getD (n .epoch .counts) k 0 ≡ 0
+    pub often : (k : ℕ) → In L k → (full ≤ getD (n .epoch .counters) k 0) ⊎ (k ≡ i)
+    pub other : (k : ℕ) → k < 32 → (In L k → ⊥) → getD (n .epoch .counters) k 0 ≡ 0
 
   -- and after it
   pub record Sent (full : ℕ) (i : ℕ) (n : Node) : Type 0 where
@@ -100,9 +100,9 @@ module _ (f : Config) (L v : ℕ) (S : Schedule) (q : ℕ → ℕ) where
     pub schedule : n .schedule ≡ fresh
     pub phase : negotiates (n .phase) ≡ false
     pub sends : sending (n .phase) ≡ true
-    pub met : (k : ℕ) → In L k → In (n .epoch .met) k ⊎ (k ≡ i)
-    pub often : (k : ℕ) → In L k → (full ≤ getD (n .epoch .counts) k 0) ⊎ (k ≡ i)
-    pub other : (k : ℕ) → k < 32 → (In L k → ⊥) → getD (n .epoch .counts) k 0 ≡ 0
+    pub interactions : (k : ℕ) → In L k → In (n .epoch .interactions) k ⊎ (k ≡ i)
+    pub often : (k : ℕ) → In L k → (full ≤ getD (n .epoch .counters) k 0) ⊎ (k ≡ i)
+    pub other : (k : ℕ) → k < 32 → (In L k → ⊥) → getD (n .epoch .counters) k 0 ≡ 0
 
   -- the same, said of equal things
   seen-as : {i j a b : ℕ} {R U : List ℕ} {lo lo′ hi hi′ : ℕ} → i ≡ j → a ≡ b → R ≡ U → lo ≡ lo′ → hi ≡ hi′ → Seen j b U lo′ hi′
@@ -186,7 +186,7 @@ module _ (f : Config) (L v : ℕ) (S : Schedule) (q : ℕ → ℕ) where
         let t = merging i n p h (A .setup) W B in
         let merged = c .merged ∙ hit (merges n p) _ _ t in
         let known = c .known ∙ hit (merges n p) _ _ t in
-        let met = c .met ∙ hit (merges n p) _ _ t in
+        let interactions = c .interactions ∙ hit (merges n p) _ _ t in
         record {
           setup = c .setup ∙ A .setup;
           flags = c .flags ∙ A .flags;
@@ -197,7 +197,8 @@ module _ (f : Config) (L v : ℕ) (S : Schedule) (q : ℕ → ℕ) where
           silent = ap sending (c .phase) ∙ A .silent;
           mark = λ u. c .determined ∙ A .mark (sym (c .updated) ∙ u);
           done = λ u. c .updated ∙ A .done u;
-          met = λ u k m. either (A .met u k m) (λ x. inl (rw met (in-or-l (n .epoch .met) (requesters (p .requests)) x))) inr;
+          interactions = λ u k m. either (A .interactions u k m)
+              (λ x. inl (rw interactions (in-or-l (n .epoch .interactions) (requesters (p .requests)) x))) inr;
           seen = λ _. seen-as refl merged known (c .lowest ∙ hit (merges n p) _ _ t) (c .highest ∙ hit (merges n p) _ _ t)
               (seen-union i h (n .round .merged) (p .flags) (n .round .known) (p .requests) (n .round .lowest) (n .round .highest)
               (p .lowest) (p .highest) W (p .sender - 1) (B .seen));
@@ -205,21 +206,21 @@ module _ (f : Config) (L v : ℕ) (S : Schedule) (q : ℕ → ℕ) where
               (λ x. let y = A .heard refl k b x in (
                 ap (λ (Z : List ℕ). getD Z k 0) known
                     ∙ known-first k b (y .0),
-                rw met (in-or-l (n .epoch .met) (requesters (p .requests)) (y .1)),
+                rw interactions (in-or-l (n .epoch .interactions) (requesters (p .requests)) (y .1)),
                 rw (c .heard)
                     (in-or-l (n .round .heard) (requesters (p .requests)) (y .2)),
               ))
               (λ z. rw z (
                 ap (λ (Z : List ℕ). getD Z (p .sender - 1) 0) known
                     ∙ known-new,
-                rw met (in-or-r (n .epoch .met) (requesters (p .requests)) (told p B)),
+                rw interactions (in-or-r (n .epoch .interactions) (requesters (p .requests)) (told p B)),
                 rw (c .heard)
                     (in-or-r (n .round .heard) (requesters (p .requests)) (told p B)),
               ));
           only = λ _ k x. either (in-or (n .round .heard) (requesters (p .requests)) (rw (c .heard) at x)) (λ y. A .only refl k y)
               (λ y. from-members k y);
-          often = λ k m. rw (c .counts) (A .often k m);
-          other = λ k b x. ap (λ (Z : List ℕ). getD Z k 0) (c .counts) ∙ A .other k b x;
+          often = λ k m. rw (c .counters) (A .often k m);
+          other = λ k b x. ap (λ (Z : List ℕ). getD Z k 0) (c .counters) ∙ A .other k b x;
         }
       where
         R : List ℕ
@@ -315,27 +316,28 @@ module _ (f : Config) (L v : ℕ) (S : Schedule) (q : ℕ → ℕ) where
             (λ x. marks n (determines-if n (all-complete (λ k m. either (g x k m) (λ y. A .heard refl k (index-lt k m) y .0)
             (λ y. rw y (W .own)))) flat under) .0)
 
-        met-by : 0 < full + digit all → (k : ℕ) → In L k → In (n .epoch .met) k ⊎ (k ≡ i)
-        met-by t k m = either (which t) (λ x. A .met x k m) (λ x. either (g x k m) (λ y. inl (A .heard refl k (index-lt k m) y .1)) inr)
+        met-by : 0 < full + digit all → (k : ℕ) → In L k → In (n .epoch .interactions) k ⊎ (k ≡ i)
+        met-by t k m = either (which t) (λ x. A .interactions x k m)
+            (λ x. either (g x k m) (λ y. inl (A .heard refl k (index-lt k m) y .1)) inr)
 
         module _ (good : inRange n ≡ true) where
-          grows : (k : ℕ) → k < 32 → getD (n .epoch .counts) k 0 ≤ getD (countsBy n) k 0
+          grows : (k : ℕ) → k < 32 → getD (n .epoch .counters) k 0 ≤ getD (countsBy n) k 0
           grows k l = either (met? (hasBit (n .round .heard) k)) (λ e. omega (arith, count-heard n k good (A .phase) l e))
               (λ e. omega (arith, count-kept n k l e))
 
           -- each other member counts the full rounds, and who is no member counts nothing
           often-by : (k : ℕ) → In L k → (full + digit all ≤ getD (countsBy n) k 0) ⊎ (k ≡ i)
-          often-by k m = either (A .often k m) (λ o. counts o (met? all)) inr
+          often-by k m = either (A .often k m) (λ o. counters o (met? all)) inr
             where
-              counts : full ≤ getD (n .epoch .counts) k 0 → (all ≡ true) ⊎ (all ≡ false)
+              counters : full ≤ getD (n .epoch .counters) k 0 → (all ≡ true) ⊎ (all ≡ false)
                   → (full + digit all ≤ getD (countsBy n) k 0) ⊎ (k ≡ i)
-              counts o (inl e) = either (g e k m) (λ y. inl (rw e (omega (
+              counters o (inl e) = either (g e k m) (λ y. inl (rw e (omega (
                 arith,
                 o,
                 count-heard n k good (A .phase) (index-lt k m)
                     (A .heard refl k (index-lt k m) y .2 .is),
               )))) inr
-              counts o (inr e) = inl (rw e (omega (arith, o, grows k (index-lt k m))))
+              counters o (inr e) = inl (rw e (omega (arith, o, grows k (index-lt k m))))
 
           other-by : (k : ℕ) → k < 32 → (In L k → ⊥) → getD (countsBy n) k 0 ≡ 0
           other-by k l x = count-kept n k l (is-false (hasBit (n .round .heard) k) (λ e. x (A .only refl k (record {
@@ -358,12 +360,12 @@ module _ (f : Config) (L v : ℕ) (S : Schedule) (q : ℕ → ℕ) where
               silent = ap sending (c .phase) ∙ quiet;
               mark = λ t. c .determined ∙ skip (due n) _ _ _ d (mark-by (sym (c .updated ∙ skip (due n) _ _ _ d refl) ∙ t));
               done = λ t. c .updated ∙ skip (due n) _ _ _ d (done-by t);
-              met = λ t k m. rw (c .met) (met-by t k m);
+              interactions = λ t k m. rw (c .interactions) (met-by t k m);
               seen = λ t. clash false t refl;
               heard = λ t. clash false t refl;
               only = λ t. clash false t refl;
-              often = λ k m. rw (c .counts) (often-by good k m);
-              other = λ k b x. ap (λ (z : List ℕ). getD z k 0) (c .counts) ∙ other-by good k b x;
+              often = λ k m. rw (c .counters) (often-by good k m);
+              other = λ k b x. ap (λ (z : List ℕ). getD z k 0) (c .counters) ∙ other-by good k b x;
             }
 
         pub sent-close : inRange n ≡ true → isLast (n .setup .config) (n .epoch .place) ≡ true → 0 < full + digit all
@@ -378,9 +380,9 @@ module _ (f : Config) (L v : ℕ) (S : Schedule) (q : ℕ → ℕ) where
               schedule = c .schedule ∙ hit (due n) _ _ d ∙ mark-by u;
               phase = ap negotiates (c .phase);
               sends = ap sending (c .phase) ∙ ap (λ (x : Bool). x || repeats n) d;
-              met = λ k m. rw (c .met) (met-by t k m);
-              often = λ k m. rw (c .counts) (often-by good k m);
-              other = λ k b x. ap (λ (z : List ℕ). getD z k 0) (c .counts) ∙ other-by good k b x;
+              interactions = λ k m. rw (c .interactions) (met-by t k m);
+              often = λ k m. rw (c .counters) (often-by good k m);
+              other = λ k b x. ap (λ (z : List ℕ). getD z k 0) (c .counters) ∙ other-by good k b x;
             }
 
     -- The next round
@@ -401,13 +403,13 @@ module _ (f : Config) (L v : ℕ) (S : Schedule) (q : ℕ → ℕ) where
           silent = ap sending p;
           mark = λ t. c .determined ∙ A .mark (sym (c .updated) ∙ t);
           done = λ t. c .updated ∙ A .done t;
-          met = λ t k m. rw (c .met) (A .met t k m);
+          interactions = λ t k m. rw (c .interactions) (A .interactions t k m);
           seen = λ t. seen-open i (endedNode n) h (ap (λ (s : Setup). s .node) setup) (c .version ∙ A .version) (c .flags ∙ A .flags)
               (c .request ∙ A .request) o;
           heard = λ t k b e. absurd (in-none k e);
           only = λ t k e. absurd (in-none k (rw (o .heard) at e));
-          often = λ k m. rw (c .counts) (A .often k m);
-          other = λ k b x. ap (λ (Z : List ℕ). getD Z k 0) (c .counts) ∙ A .other k b x;
+          often = λ k m. rw (c .counters) (A .often k m);
+          other = λ k b x. ap (λ (Z : List ℕ). getD Z k 0) (c .counters) ∙ A .other k b x;
         }
 
     -- Another demand
@@ -424,7 +426,7 @@ module _ (f : Config) (L v : ℕ) (S : Schedule) (q : ℕ → ℕ) where
           silent = ap sending (c .phase) ∙ A .silent;
           mark = rw (c .epoch) (A .mark);
           done = rw (c .epoch) (A .done);
-          met = rw (c .epoch) (A .met);
+          interactions = rw (c .epoch) (A .interactions);
           seen = λ t. let e = c .round in seen-as refl (λ j. e j .merged) (λ j. e j .known) (λ j. e j .lowest) (λ j. e j .highest)
               (A .seen t);
           heard = rw (c .epoch, c .round) (A .heard);
@@ -442,7 +444,7 @@ module _ (f : Config) (L v : ℕ) (S : Schedule) (q : ℕ → ℕ) where
           schedule = c .schedule ∙ A .schedule;
           phase = ap negotiates (c .phase) ∙ A .phase;
           sends = ap sending (c .phase) ∙ A .sends;
-          met = rw (c .epoch) (A .met);
+          interactions = rw (c .epoch) (A .interactions);
           often = rw (c .epoch) (A .often);
           other = rw (c .epoch) (A .other);
         }
@@ -450,16 +452,16 @@ module _ (f : Config) (L v : ℕ) (S : Schedule) (q : ℕ → ℕ) where
     -- The epoch's last end: no member expires
     module _ (i : ℕ) (n : Node) (full : ℕ) (h : In L i) (w : isWaiting (n .phase) ≡ false)
         (last : isLast (n .setup .config) (n .epoch .place) ≡ true) (A : Sent full i n) where
-      pub keeps : n .epoch .met < 2 ^ f .nodes → (endedNode n .version ≡ suc v) × (endedNode n .schedule ≡ fresh)
-      keeps m = let k = end-keeps n last w (enough .lasts i n h (A .setup) m (A .met)) in (k .0 ∙ A .version, k .1 ∙ A .schedule)
+      pub keeps : n .epoch .interactions < 2 ^ f .nodes → (endedNode n .version ≡ suc v) × (endedNode n .schedule ≡ fresh)
+      keeps m = let k = end-keeps n last w (enough .lasts i n h (A .setup) m (A .interactions)) in (k .0 ∙ A .version, k .1 ∙ A .schedule)
 
       -- and with as many full rounds as a node must be heard in, its flags are the members again
       pub flags-again : 1 ≤ f .«min_heard» → f .«min_heard» ≤ full → endedNode n .flags ≡ L
       flags-again some heard-enough = end-flags n last w ∙ same-set 32 flags L
-          (members-lt (n .epoch .counts) (n .setup .node) (n .setup .config .«min_heard»)) wide inner outer
+          (members-lt (n .epoch .counters) (n .setup .node) (n .setup .config .«min_heard»)) wide inner outer
         where
           flags : ℕ
-          flags = membersOf (n .epoch .counts) (n .setup .node) (n .setup .config .«min_heard»)
+          flags = membersOf (n .epoch .counters) (n .setup .node) (n .setup .config .«min_heard»)
 
           node : n .setup .node ≡ suc i
           node = ap (λ (s : Setup). s .node) (A .setup)
@@ -467,18 +469,18 @@ module _ (f : Config) (L v : ℕ) (S : Schedule) (q : ℕ → ℕ) where
           heard : n .setup .config .«min_heard» ≡ f .«min_heard»
           heard = ap (λ (s : Setup). s .config .«min_heard») (A .setup)
 
-          has : (k : ℕ) → k < 32 → hasBit flags k ≡ (leb (n .setup .config .«min_heard») (getD (n .epoch .counts) k 0)
+          has : (k : ℕ) → k < 32 → hasBit flags k ≡ (leb (n .setup .config .«min_heard») (getD (n .epoch .counters) k 0)
               || eqb (k + 1) (n .setup .node))
-          has k l = members-has (n .epoch .counts) (n .setup .node) (n .setup .config .«min_heard») k l
+          has k l = members-has (n .epoch .counters) (n .setup .node) (n .setup .config .«min_heard») k l
 
           inner : (k : ℕ) → In flags k → In L k
           inner k x =
-              let l = in-lt 32 flags k (members-lt (n .epoch .counts) (n .setup .node) (n .setup .config .«min_heard»)) x in
+              let l = in-lt 32 flags k (members-lt (n .epoch .counters) (n .setup .node) (n .setup .config .«min_heard»)) x in
               either (in? L k) (λ y. y)
-              (λ y. absurd (either (or-cases (leb (n .setup .config .«min_heard») (getD (n .epoch .counts) k 0))
+              (λ y. absurd (either (or-cases (leb (n .setup .config .«min_heard») (getD (n .epoch .counters) k 0))
               (eqb (k + 1) (n .setup .node))
               (sym (has k l) ∙ x .is))
-              (λ e. omega (arith, leb-true (n .setup .config .«min_heard») (getD (n .epoch .counts) k 0) e, A .other k l y, heard, some))
+              (λ e. omega (arith, leb-true (n .setup .config .«min_heard») (getD (n .epoch .counters) k 0) e, A .other k l y, heard, some))
               (λ e. let z : k ≡ i = omega (arith, eqb-true (k + 1) (n .setup .node) e, node) in y (rw z h))))
 
           outer : (k : ℕ) → In L k → In flags k
@@ -486,8 +488,8 @@ module _ (f : Config) (L v : ℕ) (S : Schedule) (q : ℕ → ℕ) where
               let l = index-lt k m in
               record {
                 is = has k l ∙ either (A .often k m)
-                    (λ o. or-front _ (eqb (k + 1) (n .setup .node)) (le-leb (n .setup .config .«min_heard») (getD (n .epoch .counts) k 0)
+                    (λ o. or-front _ (eqb (k + 1) (n .setup .node)) (le-leb (n .setup .config .«min_heard») (getD (n .epoch .counters) k 0)
                     (omega (arith, o, heard, heard-enough))))
-                    (λ e. or-back (leb (n .setup .config .«min_heard») (getD (n .epoch .counts) k 0)) _
+                    (λ e. or-back (leb (n .setup .config .«min_heard») (getD (n .epoch .counters) k 0)) _
                     (eq-eqb (k + 1) (n .setup .node) (omega (arith, e, node))));
               }

@@ -357,4 +357,4 @@ module _ (f : Config) (L v : ℕ) (S : Schedule) (q : ℕ → ℕ) where
 
         k : (endedNode (member s i .node) .version ≡ suc v) × (endedNode (member s i .node) .schedule ≡ calm.fresh f L v S q)
         k = calm.keeps f L v S q small fits enough below asks i (member s i .node) (r .full) h w last B
-            (subst (λ (x : Config). member s i .node .epoch .met < 2 ^ x .nodes) (Q .config) (steady-met st))
+            (subst (λ (x : Config). member s i .node .epoch .interactions < 2 ^ x .nodes) (Q .config) (steady-met st))

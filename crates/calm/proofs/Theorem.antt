@@ -25,7 +25,7 @@ use Rattle.node.proofs.Phases.{in-negotiation}
 use Rattle.site.specs.Members.{setupOf}
 use Rattle.site.specs.Load.{loadAnswer, loadedSite}
 use Rattle.site.specs.Steps.{endedSite, siteAfter}
-use Rattle.site.specs.Run.{World, after, run}
+use Rattle.site.specs.Run.{RunState, after, run}
 use Rattle.node.specs.declared.Config.{Config}
 use Rattle.site.specs.declared.Table.{Table}
 use Rattle.site.specs.Model.{Site}
@@ -35,7 +35,7 @@ use Rattle.site.proofs.Accepted.{answered, end-accepted}
 use Rattle.node.proofs.Bounds.{bounds}
 use Rattle.traces.specs.Past.{Past, noPast, trace}
 use Rattle.traces.specs.Reached.{begin, reached, pastOf}
-use Rattle.calm.specs.Calm.{Recovery, whole, memberIn, liveIn, liveSet, requestsOf, unwatched, watched, NobodyJoins, OneSchedule}
+use Rattle.calm.specs.Calm.{Recovery, whole, siteMember, liveIn, liveSet, requestsOf, unwatched, watched, NobodyJoins, OneSchedule}
 use Rattle.calm.specs.Calm.{Ready, Calm, Risen}
 use Rattle.traces.proofs.Sets.{In, in-lt, in-none}
 use Rattle.traces.proofs.Tests.{either}
@@ -126,13 +126,13 @@ module _ (f : Config) (past : Past) (s : Site) (area : List ℕ) (air : List Pac
             silent = ap sending (in-negotiation (n .phase) p);
             mark = λ t. clash (n .epoch .updated) t u;
             done = λ t. absurd (omega (arith, t));
-            met = λ t. absurd (omega (arith, t));
+            interactions = λ t. absurd (omega (arith, t));
             seen = λ t. calm.seen-open f L v S q small fits enough (R .below) asks i n m (ap (λ (x : Setup). x .node) e) (R .version i l)
                 (R .flags i l) refl (op .round i l);
             heard = λ t k b y. absurd (in-none k y);
             only = λ t k y. absurd (in-none k (subst (λ (x : ℕ). In x k) (op .round i l .heard) y));
             often = λ k b. inl (omega arith);
-            other = λ k b x. ap (λ (z : List ℕ). getD z k 0) (op .counts (R .place) i l) ∙ getD-zeros 32 k;
+            other = λ k b x. ap (λ (z : List ℕ). getD z k 0) (op .counters (R .place) i l) ∙ getD-zeros 32 k;
           }
 
   begins-quiet : Going f L v S q small fits enough (R .below) asks unwatched s area
@@ -150,15 +150,15 @@ module _ (f : Config) (past : Past) (s : Site) (area : List ℕ) (air : List Pac
   }
 
 -- the last end of a calm epoch
-module _ (f : Config) (past : Past) (w : World) (air : List Packet) (v : ℕ) (sound : Sound (w .site) (w .area) air)
+module _ (f : Config) (past : Past) (w : RunState) (air : List Packet) (v : ℕ) (sound : Sound (w .site) (w .area) air)
     (fig : w .site .config ≡ f) (o : Opens (past .start)) (R : Ready past (w .site) v) (S : Schedule)
     (one : (i : ℕ) → liveIn (w .site) i ≡ true → member (w .site) i .node .schedule ≡ S) (body : List Event)
     (C : Calm (liveSet (w .site)) w body) (i : ℕ) (li : liveIn (w .site) i ≡ true) where
-  ended : (liveIn (endedSite (run w body .site)) i ≡ true) × (memberIn (endedSite (run w body .site)) i .node .version ≡ suc v)
-      × (memberIn (endedSite (run w body .site)) i .node .schedule ≡ next S (liveSet (w .site)) (requestsOf (w .site)) (f .nodes)
+  ended : (liveIn (endedSite (run w body .site)) i ≡ true) × (siteMember (endedSite (run w body .site)) i .node .version ≡ suc v)
+      × (siteMember (endedSite (run w body .site)) i .node .schedule ≡ next S (liveSet (w .site)) (requestsOf (w .site)) (f .nodes)
       (f .slots))
       × (f .«min_heard» ≤ watched (liveSet (w .site)) unwatched w body .full
-      → memberIn (endedSite (run w body .site)) i .node .flags ≡ liveSet (w .site))
+      → siteMember (endedSite (run w body .site)) i .node .flags ≡ liveSet (w .site))
   unfolding requestsOf
   ended =
       let s = w .site in
@@ -220,7 +220,7 @@ pub calm-again : (f : Config) (t : Table) → loadAnswer f t ≡ Done → (area 
     → f .«min_heard» ≤ watched (liveSet (run (begin f t area) before .site)) unwatched (run (begin f t area) before) body .full
     → NobodyJoins (run (begin f t area) before .site) (after (run (run (begin f t area) before) body) End .site)
     → (i : ℕ) → liveIn (after (run (run (begin f t area) before) body) End .site) i ≡ true
-    → memberIn (after (run (run (begin f t area) before) body) End .site) i .node .flags
+    → siteMember (after (run (run (begin f t area) before) body) End .site) i .node .flags
     ≡ liveSet (after (run (run (begin f t area) before) body) End .site)
 unfolding siteAfter liveSet
 calm-again f t d area before body v R C enough nobody i li =
@@ -234,8 +234,8 @@ calm-again f t d area before body v R C enough nobody i li =
     let ls = nobody i li in
     let r = ended f past w (h .air) v (h .sound) (h .config) o R (member (w .site) i .node .schedule)
     (λ k l. same-schedule f t d area before v R k i l ls) body C i ls in
-    let x : memberIn (siteAfter (run w body .site) (run w body .area) End) i .node .flags
-    ≡ liveSet (w .site) = ap (λ (y : Site). memberIn y i .node .flags) e ∙ r .3 enough in
+    let x : siteMember (siteAfter (run w body .site) (run w body .area) End) i .node .flags
+    ≡ liveSet (w .site) = ap (λ (y : Site). siteMember y i .node .flags) e ∙ r .3 enough in
     x ∙ wordOf-ext 32 (liveIn (w .site)) (liveIn (siteAfter (run w body .site) (run w body .area) End)) (λ k l. same-live k)
   where
     same-live : (k : ℕ) → liveIn (run (begin f t area) before .site) k ≡ liveIn (after (run (run (begin f t area) before) body) End .site) k
@@ -245,18 +245,18 @@ calm-again f t d area before body v R C enough nobody i li =
 
 -- two in a row
 
-run-append : (w : World) (x y : List Event) → run w (x ++ y) ≡ run (run w x) y
+run-append : (w : RunState) (x y : List Event) → run w (x ++ y) ≡ run (run w x) y
 unfolding run
 run-append w [] y = refl
 run-append w (e ∷ x) y = run-append (after w e) x y
 
-run-one : (w : World) (e : Event) → run w (e ∷ []) ≡ after w e
+run-one : (w : RunState) (e : Event) → run w (e ∷ []) ≡ after w e
 unfolding run
 run-one w e = refl
 
-get-requests : (s : Site) (k : ℕ) → k < 32 → getD (requestsOf s) k 0 ≡ memberIn s k .node .request
+get-requests : (s : Site) (k : ℕ) → k < 32 → getD (requestsOf s) k 0 ≡ siteMember s k .node .request
 unfolding requestsOf
-get-requests s k l = getD-tab 0 32 (λ i. memberIn s i .node .request) k l
+get-requests s k l = getD-tab 0 32 (λ i. siteMember s i .node .request) k l
 
 pub calm-twice : (f : Config) (t : Table) → loadAnswer f t ≡ Done → (area : List ℕ) (before first second : List Event) (v u : ℕ)
     → Ready (trace (noPast (loadedSite f t)) (begin f t area) before) (run (begin f t area) before .site) v
@@ -266,10 +266,10 @@ pub calm-twice : (f : Config) (t : Table) → loadAnswer f t ≡ Done → (area 
     → Calm (liveSet (run (begin f t area) (before ++ whole first) .site)) (run (begin f t area) (before ++ whole first)) second
     → liveSet (run (begin f t area) before .site) ≡ liveSet (run (begin f t area) (before ++ whole first) .site)
     → ((i : ℕ) → liveIn (run (begin f t area) before .site) i ≡ true
-    → memberIn (run (begin f t area) before .site) i .node .request
-    ≡ memberIn (run (begin f t area) (before ++ whole first) .site) i .node .request)
+    → siteMember (run (begin f t area) before .site) i .node .request
+    ≡ siteMember (run (begin f t area) (before ++ whole first) .site) i .node .request)
     → (i : ℕ) → liveIn (run (begin f t area) before .site) i ≡ true
-    → count (suc i) (ownersOf (memberIn (after (run (run (begin f t area) (before ++ whole first)) second) End .site) i .node .schedule))
+    → count (suc i) (ownersOf (siteMember (after (run (run (begin f t area) (before ++ whole first)) second) End .site) i .node .schedule))
     ≡ getD (targets (f .nodes) (f .slots) (liveSet (run (begin f t area) (before ++ whole first) .site))
     (requestsOf (run (begin f t area) (before ++ whole first) .site))) i 0
 calm-twice f t d area before first second v u R C R′ C′ same asked i li =
@@ -283,15 +283,16 @@ calm-twice f t d area before first second v u R C R′ C′ same asked i li =
     let L1 = liveSet s1 in
     let link : after (run w0 first) End ≡ w1 = sym (run-append b before (whole first) ∙ run-append w0 first (End ∷ [])
     ∙ run-one (run w0 first) End) in
-    let one : Risen s0 s1 v i i = subst (λ (x : World). Risen s0 (x .site) v i i) link (calm-epoch f t d area before first v R C i i li li)
+    let one : Risen s0 s1 v i i = subst (λ (x : RunState). Risen s0 (x .site) v i i) link
+    (calm-epoch f t d area before first v R C i i li li)
     in
     let two = calm-epoch f t d area (before ++ whole first) second u R′ C′ i i (one .live) (one .live) in
     let h0 = always f t d area before in
     let h1 = always f t d area (before ++ whole first) in
-    let e0 : memberIn s1 i .node .schedule ≡ next (memberIn s0 i .node .schedule) L1 (requestsOf s0) N K = one .schedule
-    ∙ ap₂ (λ (m : ℕ) (g : Config). next (memberIn s0 i .node .schedule) m (requestsOf s0) (g .nodes) (g .slots)) same (h0 .config) in
-    let e1 : next (memberIn s0 i .node .schedule) L1 (requestsOf s0) N K
-    ≡ next (memberIn s0 i .node .schedule) L1 (requestsOf s1) N K = same-asks (memberIn s0 i .node .schedule) L1 (requestsOf s0)
+    let e0 : siteMember s1 i .node .schedule ≡ next (siteMember s0 i .node .schedule) L1 (requestsOf s0) N K = one .schedule
+    ∙ ap₂ (λ (m : ℕ) (g : Config). next (siteMember s0 i .node .schedule) m (requestsOf s0) (g .nodes) (g .slots)) same (h0 .config) in
+    let e1 : next (siteMember s0 i .node .schedule) L1 (requestsOf s0) N K
+    ≡ next (siteMember s0 i .node .schedule) L1 (requestsOf s1) N K = same-asks (siteMember s0 i .node .schedule) L1 (requestsOf s0)
     (requestsOf s1) N K
     (λ k l m. let k32 : k < 32 = omega (
       arith,
@@ -300,11 +301,11 @@ calm-twice f t d area before first second v u R C R′ C′ same asked i li =
     ) in get-requests s0 k k32 ∙ asked k (live-in s0 k (record {
       is = ap (λ (x : ℕ). hasBit x k) same ∙ m;
     })) ∙ sym (get-requests s1 k k32)) in
-    let e2 : memberIn (after (run w1 second) End .site) i .node .schedule
-    ≡ next (next (memberIn s0 i .node .schedule) L1 (requestsOf s1) N K) L1 (requestsOf s1) N K
+    let e2 : siteMember (after (run w1 second) End .site) i .node .schedule
+    ≡ next (next (siteMember s0 i .node .schedule) L1 (requestsOf s1) N K) L1 (requestsOf s1) N K
     = two .schedule ∙ ap₂ (λ (x : Schedule) (g : Config). next x L1 (requestsOf s1) (g .nodes) (g .slots)) (e0 ∙ e1) (h1 .config) in
     let z : suc i - 1 ≡ i = omega arith in
-    ap (λ (x : Schedule). count (suc i) (ownersOf x)) e2 ∙ settled (memberIn s0 i .node .schedule) L1 (requestsOf s1) N K (suc i)
+    ap (λ (x : Schedule). count (suc i) (ownersOf x)) e2 ∙ settled (siteMember s0 i .node .schedule) L1 (requestsOf s1) N K (suc i)
     (omega arith) ∙ ap (λ (k : ℕ). getD (targets N K L1 (requestsOf s1)) k 0) z
 
 -- the theorem

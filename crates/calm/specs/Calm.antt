@@ -18,10 +18,10 @@ use Rattle.node.specs.Figures.{topVersion, isLast}
 use Rattle.node.specs.declared.Answer.the-variants.{Done}
 use Rattle.wire.specs.Layout.{packetIn}
 use Rattle.site.specs.Parts.{packetPart}
-use Rattle.site.specs.Members.{nobody, channelOf, isLive}
+use Rattle.site.specs.Members.{nobody, headerOf, isLive}
 use Rattle.site.specs.Load.{loadAnswer}
 use Rattle.site.specs.Answers.{answerOf}
-use Rattle.site.specs.Run.{World, after, run}
+use Rattle.site.specs.Run.{RunState, after, run}
 use Rattle.node.specs.declared.Config.{Config}
 use Rattle.site.specs.declared.Table.{Table}
 use Rattle.site.specs.Model.{Member}
@@ -32,11 +32,11 @@ use Rattle.traces.specs.Past.{Past}
 use Rattle.traces.specs.Reached.{reached, pastOf}
 
 -- the member at an index, and whether it is live
-abbrev pub memberIn : Site → ℕ → Member
-memberIn s i = getD (s .members) i nobody
+abbrev pub siteMember : Site → ℕ → Member
+siteMember s i = getD (s .members) i nobody
 
 abbrev pub liveIn : Site → ℕ → Bool
-liveIn s i = isLive (memberIn s i)
+liveIn s i = isLive (siteMember s i)
 
 -- the nodes that are live
 unfoldable pub liveSet : Site → ℕ
@@ -44,7 +44,7 @@ liveSet s = wordOf 32 (liveIn s)
 
 -- what each node requests
 unfoldable pub requestsOf : Site → List ℕ
-requestsOf s = tab 32 (λ i. memberIn s i .node .request)
+requestsOf s = tab 32 (λ i. siteMember s i .node .request)
 
 -- beside the events of an epoch: for each node the senders of the packets that it has heard in this round; in how many rounds each node of
 -- a set has heard each other; whether a node of the set has crashed; whether the epoch is over
@@ -66,7 +66,7 @@ abbrev pub watching : ℕ → Watch → Site → List ℕ → Event → Watch
 watching L r s area (Send j) = r
 watching L r s area (Hear j p) =
     record {
-      heard = set (r .heard) (j - 1) (withBit (getD (r .heard) (j - 1) 0) (packetIn (packetPart (channelOf s) area p) .sender - 1));
+      heard = set (r .heard) (j - 1) (withBit (getD (r .heard) (j - 1) 0) (packetIn (packetPart (headerOf s) area p) .sender - 1));
       full = r .full;
       crashed = r .crashed;
       over = r .over;
@@ -89,16 +89,16 @@ watching L r s area (Crash j) = record { heard = r .heard; full = r .full; crash
 watching L r s area (Restart j flags) = r
 
 -- a refused event adds nothing
-unfoldable pub watchAfter : ℕ → Watch → World → Event → Watch
+unfoldable pub watchAfter : ℕ → Watch → RunState → Event → Watch
 watchAfter L r w e = cond (isDone (answerOf (w .site) (w .area) e)) (watching L r (w .site) (w .area) e) r
 
-unfoldable pub watched : ℕ → Watch → World → List Event → Watch
+unfoldable pub watched : ℕ → Watch → RunState → List Event → Watch
 watched L r w [] = r
 watched L r w (e ∷ es) = watched L (watchAfter L r w e) (after w e) es
 
 -- the live nodes have one schedule
 abbrev pub OneSchedule : Site → Type 0
-OneSchedule s = (i j : ℕ) → liveIn s i ≡ true → liveIn s j ≡ true → memberIn s i .node .schedule ≡ memberIn s j .node .schedule
+OneSchedule s = (i j : ℕ) → liveIn s i ≡ true → liveIn s j ≡ true → siteMember s i .node .schedule ≡ siteMember s j .node .schedule
 
 -- who must be live: more than half; at a site that may split any of one schedule (S-14). Elsewhere one version is one schedule, by demand 3
 abbrev pub Suffices : Site → Type 0
@@ -110,13 +110,13 @@ pub record Ready (past : Past) (s : Site) (v : ℕ) : Type 0 where
   pub start : past .start ≡ s
   pub place : s .place ≡ 0
   pub suffices : Suffices s
-  pub flags : (i : ℕ) → liveIn s i ≡ true → memberIn s i .node .flags ≡ liveSet s
-  pub version : (i : ℕ) → liveIn s i ≡ true → memberIn s i .node .version ≡ v
+  pub flags : (i : ℕ) → liveIn s i ≡ true → siteMember s i .node .flags ≡ liveSet s
+  pub version : (i : ℕ) → liveIn s i ≡ true → siteMember s i .node .version ≡ v
   pub below : v < topVersion
 
 -- the events of the epoch before its last end: it isn't over, no node of L crashes, in some round each node of L hears each other, and the
 -- last end follows
-pub record Calm (L : ℕ) (w : World) (body : List Event) : Type 0 where
+pub record Calm (L : ℕ) (w : RunState) (body : List Event) : Type 0 where
   pub within : watched L unwatched w body .over ≡ false
   pub safe : watched L unwatched w body .crashed ≡ false
   pub full : 0 < watched L unwatched w body .full
@@ -124,7 +124,7 @@ pub record Calm (L : ℕ) (w : World) (body : List Event) : Type 0 where
   pub last : isLast (w .site .config) (run w body .site .place) ≡ true
 
 -- the site after the last end of an epoch whose other events are given
-abbrev pub epochEnd : World → List Event → Site
+abbrev pub epochEnd : RunState → List Event → Site
 epochEnd w body = after (run w body) End .site
 
 -- the events of an epoch with its last end
@@ -135,8 +135,8 @@ whole body = body ++ (End ∷ [])
 -- had as the epoch began
 pub record Risen (s t : Site) (v i j : ℕ) : Type 0 where
   pub live : liveIn t i ≡ true
-  pub version : memberIn t i .node .version ≡ suc v
-  pub schedule : memberIn t i .node .schedule ≡ next (memberIn s j .node .schedule) (liveSet s) (requestsOf s) (s .config .nodes)
+  pub version : siteMember t i .node .version ≡ suc v
+  pub schedule : siteMember t i .node .schedule ≡ next (siteMember s j .node .schedule) (liveSet s) (requestsOf s) (s .config .nodes)
       (s .config .slots)
 
 -- who is live then was live before: no waiting node has begun
@@ -146,7 +146,7 @@ NobodyJoins s t = (j : ℕ) → liveIn t j ≡ true → liveIn s j ≡ true
 -- two sites with the same live nodes, and these with the same requests
 pub record SameAsked (s t : Site) : Type 0 where
   pub live : liveSet s ≡ liveSet t
-  pub requests : (i : ℕ) → liveIn s i ≡ true → memberIn s i .node .request ≡ memberIn t i .node .request
+  pub requests : (i : ℕ) → liveIn s i ≡ true → siteMember s i .node .request ≡ siteMember t i .node .request
 
 -- from a site just loaded, by any list `before`, with any content of the packet area
 pub record Recovers (f : Config) (t : Table) (area : List ℕ) : Type 0 where
@@ -164,7 +164,7 @@ pub record Recovers (f : Config) (t : Table) (area : List ℕ) : Type 0 where
       → f .«min_heard» ≤ watched (liveSet (reached f t area before .site)) unwatched (reached f t area before) body .full
       → NobodyJoins (reached f t area before .site) (epochEnd (reached f t area before) body)
       → (i : ℕ) → liveIn (epochEnd (reached f t area before) body) i ≡ true
-      → memberIn (epochEnd (reached f t area before) body) i .node .flags ≡ liveSet (epochEnd (reached f t area before) body)
+      → siteMember (epochEnd (reached f t area before) body) i .node .flags ≡ liveSet (epochEnd (reached f t area before) body)
   -- two in a row with the same members and requests: each member holds exactly its target
   pub settles : (before first second : List Event) (v u : ℕ)
       → Ready (pastOf f t area before) (reached f t area before .site) v
@@ -173,7 +173,7 @@ pub record Recovers (f : Config) (t : Table) (area : List ℕ) : Type 0 where
       → Calm (liveSet (reached f t area (before ++ whole first) .site)) (reached f t area (before ++ whole first)) second
       → SameAsked (reached f t area before .site) (reached f t area (before ++ whole first) .site)
       → (i : ℕ) → liveIn (reached f t area before .site) i ≡ true
-      → count (suc i) (ownersOf (memberIn (epochEnd (reached f t area (before ++ whole first)) second) i .node .schedule))
+      → count (suc i) (ownersOf (siteMember (epochEnd (reached f t area (before ++ whole first)) second) i .node .schedule))
       ≡ getD (targets (f .nodes) (f .slots) (liveSet (reached f t area (before ++ whole first) .site))
       (requestsOf (reached f t area (before ++ whole first) .site))) i 0
 

@@ -34,14 +34,14 @@ use Rattle.site.specs.Members.{nobody, memberAt, isLive}
 use Rattle.site.specs.Load.{loadAnswer, loadedSite, loadedMember, tableOk, rowOk}
 use Rattle.site.specs.Answers.{siteSend, answerPart, siteHear, siteClose, siteTake, siteEnd, siteCrash, answerOf}
 use Rattle.site.specs.Steps.{sentSite, sentArea, heardSite, closedSite, takenSite, endedSite, crashedSite, siteAfter, areaAfter}
-use Rattle.site.specs.Run.{World, run}
+use Rattle.site.specs.Run.{RunState, run}
 use Rattle.site.specs.Model.{Member}
 use Rattle.site.specs.Model.{Site}
 use Rattle.site.specs.declared.Event.the-variants.{Send, Hear, Close, End}
 use Rattle.traces.specs.Past.{determinedAt, pastAfter, trace}
 use Rattle.agreement.specs.Demand.{determinations}
 use Rattle.traces.specs.Reached.{reached, pastOf}
-use Rattle.calm.specs.Calm.{memberIn, liveIn, liveSet, unwatched, allHeard, watchAfter, watched, Ready, Calm, epochEnd, NobodyJoins}
+use Rattle.calm.specs.Calm.{siteMember, liveIn, liveSet, unwatched, allHeard, watchAfter, watched, Ready, Calm, epochEnd, NobodyJoins}
 use Rattle.cases.specs.Histories.{area, summary, allTalk, informedThree, aloneConfig, aloneTable, trio, allAt, wholeCase, calmBody}
 use Rattle.cases.specs.Histories.{ship, halves, halvesTalk, pair, pairTable, oneLeft, Histories}
 
@@ -119,8 +119,8 @@ only-first i l = go (decLt i 32)
     go (no h) = clash (liveIn s i) l (ap isLive (List·getD-eq-default (s .members) nobody {n = i} (omega (arith, half-live .1))))
 
 half-begins : let s = reached pair pairTable area oneLeft .site in
-    (pastOf pair pairTable area oneLeft .start ≡ s) × (s .place ≡ 0) × (s .config .split ≡ 1) × (memberIn s 0 .node .flags ≡ liveSet s)
-    × (memberIn s 0 .node .version ≡ 1)
+    (pastOf pair pairTable area oneLeft .start ≡ s) × (s .place ≡ 0) × (s .config .split ≡ 1) × (siteMember s 0 .node .flags ≡ liveSet s)
+    × (siteMember s 0 .node .version ≡ 1)
 unfolding trace run pastAfter siteAfter areaAfter answerOf siteClose siteEnd siteCrash closedSite endedSite crashedSite loadedSite
     loadedMember liveSet
     begun waiting opened complete level verdict counted due raised stayed closedNode closeAnswer withSelf nextRound waitsOn membersOf
@@ -134,9 +134,13 @@ half-ready-so =
     record {
       start = half-begins .0;
       place = half-begins .1;
-      suffices = inr (half-begins .2, λ i j li lj. ap (λ (k : ℕ). memberIn s k .node .schedule) (only-first i li ∙ sym (only-first j lj)));
-      flags = λ i l. ap (λ (k : ℕ). memberIn s k .node .flags) (only-first i l) ∙ half-begins .3;
-      version = λ i l. ap (λ (k : ℕ). memberIn s k .node .version) (only-first i l) ∙ half-begins .4;
+      suffices = inr (
+        half-begins .2,
+        λ i j li lj. ap (λ (k : ℕ). siteMember s k .node .schedule)
+            (only-first i li ∙ sym (only-first j lj)),
+      );
+      flags = λ i l. ap (λ (k : ℕ). siteMember s k .node .flags) (only-first i l) ∙ half-begins .3;
+      version = λ i l. ap (λ (k : ℕ). siteMember s k .node .version) (only-first i l) ∙ half-begins .4;
       below = omega arith;
     }
 
@@ -179,7 +183,7 @@ alive = (refl, refl)
 joins-so : NobodyJoins (reached trio (allAt 1) area [] .site) (epochEnd (reached trio (allAt 1) area []) calmBody)
 joins-so j l = go (decLt j 32)
   where
-    w : World
+    w : RunState
     w = reached trio (allAt 1) area []
 
     go : Dec (j < 32) → liveIn (w .site) j ≡ true
@@ -204,8 +208,8 @@ by-three P a b c (suc (suc (suc i))) h = absurd (omega arith)
 
 -- each of them at version 1, with the three as flags
 begins-so : (3 < 2 * size (liveSet (loadedSite trio (allAt 1))))
-    × ((i : ℕ) → i < 3 → memberIn (loadedSite trio (allAt 1)) i .node .flags ≡ liveSet (loadedSite trio (allAt 1)))
-    × ((i : ℕ) → i < 3 → memberIn (loadedSite trio (allAt 1)) i .node .version ≡ 1)
+    × ((i : ℕ) → i < 3 → siteMember (loadedSite trio (allAt 1)) i .node .flags ≡ liveSet (loadedSite trio (allAt 1)))
+    × ((i : ℕ) → i < 3 → siteMember (loadedSite trio (allAt 1)) i .node .version ≡ 1)
 unfolding loadedSite loadedMember liveSet wordOf tab begun ones onesIn
 begins-so = (omega arith, by-three _ refl refl refl, by-three _ refl refl refl)
 

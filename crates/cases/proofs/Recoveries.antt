@@ -35,7 +35,7 @@ use Rattle.traces.specs.Past.{determinedAt, pastAfter, trace}
 use Rattle.traces.specs.Reached.{reached, pastOf}
 use Rattle.node.specs.Begin.{restartAnswer}
 use Rattle.node.specs.Steps.{wantedNode}
-use Rattle.calm.specs.Calm.{memberIn, liveIn, liveSet, unwatched, allHeard, watchAfter, watched, epochEnd, whole}
+use Rattle.calm.specs.Calm.{siteMember, liveIn, liveSet, unwatched, allHeard, watchAfter, watched, epochEnd, whole}
 use Rattle.cases.specs.Histories.{area, trio, allAt, calmBody, ship, halves}
 use Rattle.cases.specs.Recoveries.{moment, pastThen, strict, twoRounds, foreTalk, aftLost, darkened, threeHold, determinedIn}
 use Rattle.cases.specs.Recoveries.{Recoveries}
@@ -66,8 +66,8 @@ unfolding trace run pastAfter determinedAt siteAfter areaAfter answerOf siteSend
 again-calm = refl
 
 asked : (liveSet (moment trio [] .site) ≡ liveSet (moment trio (whole calmBody) .site))
-    × (eachLive (moment trio [] .site) (λ i. eqb (memberIn (moment trio [] .site) i .node .request)
-    (memberIn (moment trio (whole calmBody) .site) i .node .request)) ≡ true)
+    × (eachLive (moment trio [] .site) (λ i. eqb (siteMember (moment trio [] .site) i .node .request)
+    (siteMember (moment trio (whole calmBody) .site) i .node .request)) ≡ true)
 unfolding trace run pastAfter determinedAt siteAfter areaAfter answerOf siteSend answerPart siteHear siteClose siteTake siteEnd siteWant
     siteCrash siteRestart sentSite sentArea heardSite closedSite takenSite endedSite wantedSite crashedSite
     restartedSite loadedSite loadedMember liveSet allHeard watchAfter watched begun waiting opened packetOf merges noted joined interacted
@@ -109,7 +109,7 @@ strict-end = refl
 
 fore-start : let s = reached ship halves area aftLost .site in
     (pastOf ship halves area aftLost .start ≡ s) × (isReady s 2 ≡ true) × (s .config .split ≡ 1) × (eachLive s (λ i. ltb i 2) ≡ true)
-    × (memberIn s 0 .node .schedule ≡ memberIn s 1 .node .schedule) × (liveSet s ≡ 3)
+    × (siteMember s 0 .node .schedule ≡ siteMember s 1 .node .schedule) × (liveSet s ≡ 3)
 unfolding trace run pastAfter determinedAt siteAfter areaAfter answerOf siteSend answerPart siteHear siteClose siteTake siteEnd siteWant
     siteCrash siteRestart sentSite sentArea heardSite closedSite takenSite endedSite wantedSite crashedSite
     restartedSite loadedSite loadedMember liveSet allHeard watchAfter watched begun waiting opened packetOf merges noted joined interacted
@@ -174,14 +174,14 @@ strict-config = (refl, refl)
 
 -- the two that are live have one schedule
 one-schedule : let s = reached ship halves area aftLost .site in (i j : ℕ) → liveIn s i ≡ true → liveIn s j ≡ true
-    → memberIn s i .node .schedule ≡ memberIn s j .node .schedule
+    → siteMember s i .node .schedule ≡ siteMember s j .node .schedule
 one-schedule i j li lj =
     let s = reached ship halves area aftLost .site in
     first i (ltb-true i 2 (each-live s (λ k. ltb k 2) (fore-start .3) i li))
     ∙ sym (first j (ltb-true j 2 (each-live s (λ k. ltb k 2) (fore-start .3) j lj)))
   where
-    first : (k : ℕ) → k < 2 → memberIn (reached ship halves area aftLost .site) k .node .schedule
-        ≡ memberIn (reached ship halves area aftLost .site) 0 .node .schedule
+    first : (k : ℕ) → k < 2 → siteMember (reached ship halves area aftLost .site) k .node .schedule
+        ≡ siteMember (reached ship halves area aftLost .site) 0 .node .schedule
     first zero h = refl
     first (suc zero) h = sym (fore-start .4)
     first (suc (suc k)) h = absurd (omega arith)

@@ -17,12 +17,12 @@ use Rattle.node.specs.Figures.{topVersion, isLast}
 use Rattle.node.proofs.Answers.{done-is}
 use Rattle.site.specs.Answers.{answerOf}
 use Rattle.site.specs.Members.{nobody, isLive}
-use Rattle.site.specs.Run.{World, run}
+use Rattle.site.specs.Run.{RunState, run}
 use Rattle.site.specs.Model.{Site}
 use Rattle.site.specs.declared.Event.{Event}
 use Rattle.site.specs.declared.Event.the-variants.{End}
 use Rattle.traces.specs.Past.{Past}
-use Rattle.calm.specs.Calm.{memberIn, liveIn, liveSet, unwatched, watched, Suffices, Ready, Calm}
+use Rattle.calm.specs.Calm.{siteMember, liveIn, liveSet, unwatched, watched, Suffices, Ready, Calm}
 
 -- each live node passes a test
 abbrev pub eachLive : Site → (ℕ → Bool) → Bool
@@ -38,28 +38,28 @@ each-live s p h i l = go (decLt i 32)
 
 -- as an epoch begins
 abbrev pub isReady : Site → ℕ → Bool
-isReady s v = eqb (s .place) 0 && eachLive s (λ i. eqb (memberIn s i .node .flags) (liveSet s) && eqb (memberIn s i .node .version) v)
+isReady s v = eqb (s .place) 0 && eachLive s (λ i. eqb (siteMember s i .node .flags) (liveSet s) && eqb (siteMember s i .node .version) v)
 
 pub ready-by : (past : Past) (s : Site) (v : ℕ) → past .start ≡ s → Suffices s → isReady s v ≡ true → v < topVersion → Ready past s v
 ready-by past s v e u h b =
-    let q : ℕ → Bool = λ i. eqb (memberIn s i .node .flags) (liveSet s) && eqb (memberIn s i .node .version) v in
+    let q : ℕ → Bool = λ i. eqb (siteMember s i .node .flags) (liveSet s) && eqb (siteMember s i .node .version) v in
     let each = each-live s q (and-right (eqb (s .place) 0) _ h) in
     record {
       start = e;
       place = eqb-true (s .place) 0 (and-left (eqb (s .place) 0) _ h);
       suffices = u;
-      flags = λ i l. eqb-true _ _ (and-left (eqb (memberIn s i .node .flags) (liveSet s)) _ (each i l));
-      version = λ i l. eqb-true _ _ (and-right (eqb (memberIn s i .node .flags) (liveSet s)) _ (each i l));
+      flags = λ i l. eqb-true _ _ (and-left (eqb (siteMember s i .node .flags) (liveSet s)) _ (each i l));
+      version = λ i l. eqb-true _ _ (and-right (eqb (siteMember s i .node .flags) (liveSet s)) _ (each i l));
       below = b;
     }
 
 -- the events of an epoch
-abbrev pub isCalm : ℕ → World → List Event → Bool
+abbrev pub isCalm : ℕ → RunState → List Event → Bool
 isCalm L w body =
     not (watched L unwatched w body .over) && (not (watched L unwatched w body .crashed) && (ltb 0 (watched L unwatched w body .full)
     && (isDone (answerOf (run w body .site) (run w body .area) End) && isLast (w .site .config) (run w body .site .place))))
 
-pub calm-by : (L : ℕ) (w : World) (body : List Event) → isCalm L w body ≡ true → Calm L w body
+pub calm-by : (L : ℕ) (w : RunState) (body : List Event) → isCalm L w body ≡ true → Calm L w body
 calm-by L w body h =
     let r = watched L unwatched w body in
     let a = and-right (not (r .over)) _ h in

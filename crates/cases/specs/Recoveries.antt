@@ -9,7 +9,7 @@ use Rattle.allotment.specs.Allotment.{ownersOf}
 use Rattle.node.specs.declared.Answer.the-variants.{Done}
 use Rattle.site.specs.Load.{loadAnswer}
 use Rattle.site.specs.Members.{memberAt}
-use Rattle.site.specs.Run.{World}
+use Rattle.site.specs.Run.{RunState}
 use Rattle.node.specs.declared.Config.{Config}
 use Rattle.site.specs.Model.{Site}
 use Rattle.site.specs.declared.Event.{Event}
@@ -20,7 +20,7 @@ use Rattle.calm.specs.Calm.{liveSet, unwatched, watched, Ready, Calm, epochEnd,
 use Rattle.cases.specs.Histories.{area, trio, allAt, calmBody, ship, halves}
 
 -- a moment of a history
-abbrev pub moment : Config → List Event → World
+abbrev pub moment : Config → List Event → RunState
 moment f es = reached f (allAt 1) area es
 
 abbrev pub pastThen : Config → List Event → Past

@@ -7,8 +7,8 @@ pub mod listing;
 pub mod listings;
 pub mod reasons;
 
-use machine::Told;
-use machine::Turned;
+use machine::DayAnswer;
+use machine::NodeReport;
 use node::Answer;
 use site::State;
 
@@ -27,15 +27,15 @@ pub enum View {
 }
 
 // The answer to a run, and how many bytes were printed.
-pub struct Ran {
+pub struct RunResult {
     pub answer: Answer,
     pub length: usize,
 }
 
 // What a line gives: its answer with the day after it, and what a node reports of it.
-struct Taken {
-    turned: Turned,
-    told: Told,
+struct LineResult {
+    turned: DayAnswer,
+    told: NodeReport,
 }
 
 // What a call for C returns, and the number that it writes to `length`.

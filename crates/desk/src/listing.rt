@@ -6,7 +6,7 @@ ghost use lib.ListN.{length, replicate};
 ghost use Rattle.lists.specs.Bytes.{Put, Tried};
 ghost use Rattle.machine.specs.Layout.{store};
 ghost use Rattle.machine.specs.Loading.{memberRead};
-ghost use Rattle.desk.specs.listing.Rows.{firstHead, reportOf, ownersText, rowText, reportLine, page, withRows};
+ghost use Rattle.desk.specs.listing.Rows.{firstHead, refusalLine, ownersText, rowText, reportLine, page, withRows};
 ghost use Rattle.desk.specs.listing.Inner.{shownRow, shownOf, ownersLive, field, stateField};
 use crate::Shown;
 use node::Answer;
@@ -58,7 +58,7 @@ fn report(out: &mut [u8], at: usize, line: u32, code: u32) -> usize
 
 // A refused line with its number; nothing for an accepted one.
 pub fn put_report(out: &mut [u8], at: usize, line: u32, a: Answer) -> usize
-    ensures { λ r. ⌜ Tried (now (out .entry)) at (reportOf line a) r (now (out .exit)) ⌝ }
+    ensures { λ r. ⌜ Tried (now (out .entry)) at (refusalLine line a) r (now (out .exit)) ⌝ }
 {
     if node::is_done(a) {
         return at;

@@ -10,26 +10,27 @@ ghost use Rattle.node.specs.declared.Answer.the-variants.{OutOfRange};
 ghost use Rattle.windows.specs.Windows.{listOk};
 ghost use Rattle.windows.specs.Copies.{windowsIn, listOf};
 ghost use Rattle.machine.specs.Layout.{store, siteIn, wordsSize, bytesSize};
-ghost use Rattle.machine.specs.reports.Reports.{untold};
+ghost use Rattle.machine.specs.reports.Reports.{noNodeReport};
 ghost use Rattle.desk.specs.listings.Output.{lineAfter, leftArea, finalArea, roomFor};
 ghost use Rattle.desk.specs.listings.Why.{whyRoom};
 ghost use Rattle.desk.specs.declared.View.the-variants.{Refusals, Reasons};
-ghost use Rattle.desk.specs.listings.Calls.{textOf, roomOf, runAnswer, ranOf, outAfter, areaAfter, lengthAfter, replayedOf};
-ghost use Rattle.desk.specs.listings.Inner.{worldIn, hasHead, eventTold, lineTaken, lineText, linesText, Runs, openingOf, linesOf};
+ghost use Rattle.desk.specs.listings.Calls.{textOf, roomOf, runAnswer, runResultOf, outAfter, areaAfterRun, lengthAfter, replayedOf};
+ghost use Rattle.desk.specs.listings.Inner.{runStateIn, hasHead, eventNodeReport, lineTaken, lineText, linesText, Runs, openingOf};
+ghost use Rattle.desk.specs.listings.Inner.{linesOf};
 ghost use Rattle.desk.specs.listings.Inner.{refusalText, headText, restText, openText, Fits};
-use crate::Ran;
+use crate::LineResult;
 use crate::Replayed;
-use crate::Taken;
+use crate::RunResult;
 use crate::View;
 use machine::Day;
-use machine::Told;
-use machine::Turned;
+use machine::DayAnswer;
+use machine::NodeReport;
 use node::Answer;
 use script::Line;
-use script::Opened;
 use script::Parsed;
-use site::Channel;
+use script::ScriptHead;
 use site::Event;
+use site::SiteHeader;
 use windows::Window;
 use windows::Windows;
 
@@ -37,12 +38,12 @@ use windows::Windows;
 pub const TOP_SCRIPT: usize = 40000;
 
 // What is told of an event, were it the next one.
-fn event_told(words: &[u32], bytes: &[u8], area: &[u8], e: Event, v: View) -> Told
-    ensures { λ r. ⌜ r ≡ eventTold v (store (now (words .entry)) (now (bytes .entry))) (now (area .entry)) e ⌝ }
+fn event_report(words: &[u32], bytes: &[u8], area: &[u8], e: Event, v: View) -> NodeReport
+    ensures { λ r. ⌜ r ≡ eventNodeReport v (store (now (words .entry)) (now (bytes .entry))) (now (area .entry)) e ⌝ }
 {
     match v {
         View::Refusals => machine::reports::nothing(),
-        View::Reasons(j) => machine::reports::told_of(words, bytes, area, e, j),
+        View::Reasons(j) => machine::reports::node_report(words, bytes, area, e, j),
     }
 }
 
@@ -55,35 +56,35 @@ fn take_line(
     p: Parsed,
     w: &[u32],
     v: View,
-) -> Taken
+) -> LineResult
     requires { ⌜ (wordsSize ≤ length (now words)) × (bytesSize ≤ length (now bytes))
         × (listOk (siteIn (store (now words) (now bytes)) .config .nodes) (day .length) (windowsIn (now w)) ≡ true) ⌝ }
     ensures { λ r. ⌜ r ≡ lineTaken v (windowsIn (now (w .entry))) (store (now (words .entry)) (now (bytes .entry))) day
         (now (area .entry)) p ⌝ }
     ensures { λ _. ⌜ siteIn (store (now (words .exit)) (now (bytes .exit)))
-        ≡ lineAfter (windowsIn (now (w .entry))) (worldIn (store (now (words .entry)) (now (bytes .entry))) day
+        ≡ lineAfter (windowsIn (now (w .entry))) (runStateIn (store (now (words .entry)) (now (bytes .entry))) day
         (now (area .entry))) p .timed .site ⌝ }
     ensures { λ _. ⌜ now (area .exit) ≡ lineAfter (windowsIn (now (w .entry)))
-        (worldIn (store (now (words .entry)) (now (bytes .entry))) day (now (area .entry))) p .area ⌝ }
+        (runStateIn (store (now (words .entry)) (now (bytes .entry))) day (now (area .entry))) p .area ⌝ }
 {
     match p {
-        Parsed::Malformed => Taken {
-            turned: Turned {
+        Parsed::Malformed => LineResult {
+            turned: DayAnswer {
                 answer: Answer::OutOfRange,
                 day,
             },
             told: machine::reports::nothing(),
         },
         Parsed::Good(e) => {
-            let told = event_told(words, bytes, area, e, v);
+            let told = event_report(words, bytes, area, e, v);
             let turned = machine::hours::step_tested(words, bytes, area, day, e, w, true);
-            Taken { turned, told }
+            LineResult { turned, told }
         }
     }
 }
 
 // What is printed of a line.
-fn put_line(out: &mut [u8], at: usize, v: View, n: u32, a: Answer, t: Told) -> usize
+fn put_line(out: &mut [u8], at: usize, v: View, n: u32, a: Answer, t: NodeReport) -> usize
     ensures { λ r. ⌜ Tried (now (out .entry)) at (lineText v n a t) r (now (out .exit)) ⌝ }
 {
     match v {
@@ -94,7 +95,7 @@ fn put_line(out: &mut [u8], at: usize, v: View, n: u32, a: Answer, t: Told) -> u
 
 // What is printed of a last line without its end.
 fn put_open(out: &mut [u8], at: usize, v: View, n: u32) -> usize
-    ensures { λ r. ⌜ Tried (now (out .entry)) at (lineText v n OutOfRange untold) r (now (out .exit)) ⌝ }
+    ensures { λ r. ⌜ Tried (now (out .entry)) at (lineText v n OutOfRange noNodeReport) r (now (out .exit)) ⌝ }
 {
     put_line(
         out,
@@ -122,10 +123,10 @@ fn run(
 ) -> usize
     requires { ⌜ (from ≤ length (now script)) × (first + length (now script) < 4294967296) × (wordsSize ≤ length (now words))
         × (bytesSize ≤ length (now bytes))
-        × (to + length (linesText v (windowsIn (now w)) (worldIn (store (now words) (now bytes)) start (now area)) first
+        × (to + length (linesText v (windowsIn (now w)) (runStateIn (store (now words) (now bytes)) start (now area)) first
         (split 10 (drop from (now script)))) ≤ length (now out))
         × (listOk (siteIn (store (now words) (now bytes)) .config .nodes) (start .length) (windowsIn (now w)) ≡ true) ⌝ }
-    ensures { λ r. ⌜ Runs v (windowsIn (now (w .entry))) (worldIn (store (now (words .entry)) (now (bytes .entry))) start
+    ensures { λ r. ⌜ Runs v (windowsIn (now (w .entry))) (runStateIn (store (now (words .entry)) (now (bytes .entry))) start
         (now (area .entry))) first (split 10 (drop from (now (script .entry)))) (now (out .entry)) to
         r (store (now (words .exit)) (now (bytes .exit))) (now (out .exit)) (now (area .exit)) ⌝ }
 {
@@ -228,7 +229,7 @@ fn put_rest(
 // A script that opens, run; or a refusal of the windows, with line 0.
 fn print_run(
     script: &[u8],
-    o: Opened,
+    o: ScriptHead,
     area: &mut [u8],
     out: &mut [u8],
     day: u32,
@@ -279,7 +280,7 @@ fn print(script: &[u8], area: &mut [u8], out: &mut [u8], day: u32, w: &[u32], v:
     ensures { λ _. ⌜ now (area .exit) ≡ finalArea day (windowsIn (now (w .entry))) (now (script .entry)) (now (area .entry)) ⌝ }
     ensures within { λ r. ⌜ r ≤ roomOf v (length (now (script .entry))) ⌝ }
 {
-    if area.len() < Channel::AREA {
+    if area.len() < SiteHeader::AREA {
         return put_refused(out, v, 0, 0, Answer::NoRoom);
     }
     if TOP_SCRIPT < script.len() {
@@ -326,22 +327,29 @@ fn room_of(v: View, n: usize) -> usize
 
 // Runs a script with a packet area, a day and windows, and prints a view of the run into lent output. Refused as 15 where the output has
 // not the room that a script of this length may need: then nothing is changed.
-pub fn show(script: &[u8], area: &mut [u8], out: &mut [u8], day: u32, w: &[u32], v: View) -> Ran
-    ensures { λ r. ⌜ r ≡ ranOf v day (windowsIn (now (w .entry))) (now (script .entry)) (now (area .entry)) (now (out .entry)) ⌝ }
+pub fn show(
+    script: &[u8],
+    area: &mut [u8],
+    out: &mut [u8],
+    day: u32,
+    w: &[u32],
+    v: View,
+) -> RunResult
+    ensures { λ r. ⌜ r ≡ runResultOf v day (windowsIn (now (w .entry))) (now (script .entry)) (now (area .entry)) (now (out .entry)) ⌝ }
     ensures { λ _. ⌜ now (out .exit) ≡ outAfter v day (windowsIn (now (w .entry))) (now (script .entry)) (now (area .entry))
         (now (out .entry)) ⌝ }
-    ensures { λ _. ⌜ now (area .exit) ≡ areaAfter v day (windowsIn (now (w .entry))) (now (script .entry)) (now (area .entry))
+    ensures { λ _. ⌜ now (area .exit) ≡ areaAfterRun v day (windowsIn (now (w .entry))) (now (script .entry)) (now (area .entry))
         (now (out .entry)) ⌝ }
     ensures within { λ r. ⌜ (r .length ≤ length (now (out .exit))) × (r .length ≤ roomOf v (length (now (script .entry)))) ⌝ }
 {
     if out.len() < room_of(v, script.len()) {
-        return Ran {
+        return RunResult {
             answer: Answer::NoRoom,
             length: 0,
         };
     }
     let n = print(script, area, out, day, w, v);
-    Ran {
+    RunResult {
         answer: Answer::Done,
         length: n,
     }
@@ -358,7 +366,7 @@ fn show_numbers(
     v: View,
 ) -> Replayed
     ensures { λ r. ⌜ (r ≡ replayedOf v day (listOf w) (now (script .entry)) (now (area .entry)) (now (out .entry)) before)
-        × (now (area .exit) ≡ areaAfter v day (listOf w) (now (script .entry)) (now (area .entry)) (now (out .entry)))
+        × (now (area .exit) ≡ areaAfterRun v day (listOf w) (now (script .entry)) (now (area .entry)) (now (out .entry)))
         × (now (out .exit) ≡ outAfter v day (listOf w) (now (script .entry)) (now (area .entry)) (now (out .entry))) ⌝ }
 {
     let list = w.list;
@@ -387,7 +395,7 @@ fn replay_numbers(
     w: Windows,
 ) -> Replayed
     ensures { λ r. ⌜ (r ≡ replayedOf Refusals day (listOf w) (now (script .entry)) (now (area .entry)) (now (out .entry)) before)
-        × (now (area .exit) ≡ areaAfter Refusals day (listOf w) (now (script .entry)) (now (area .entry)) (now (out .entry)))
+        × (now (area .exit) ≡ areaAfterRun Refusals day (listOf w) (now (script .entry)) (now (area .entry)) (now (out .entry)))
         × (now (out .exit) ≡ outAfter Refusals day (listOf w) (now (script .entry)) (now (area .entry)) (now (out .entry))) ⌝ }
 {
     show_numbers(script, area, out, before, day, w, View::Refusals)
@@ -404,7 +412,7 @@ fn why_numbers(
     w: Windows,
 ) -> Replayed
     ensures { λ r. ⌜ (r ≡ replayedOf (Reasons j) day (listOf w) (now (script .entry)) (now (area .entry)) (now (out .entry)) before)
-        × (now (area .exit) ≡ areaAfter (Reasons j) day (listOf w) (now (script .entry)) (now (area .entry)) (now (out .entry)))
+        × (now (area .exit) ≡ areaAfterRun (Reasons j) day (listOf w) (now (script .entry)) (now (area .entry)) (now (out .entry)))
         × (now (out .exit) ≡ outAfter (Reasons j) day (listOf w) (now (script .entry)) (now (area .entry)) (now (out .entry))) ⌝ }
 {
     show_numbers(script, area, out, before, day, w, View::Reasons(j))
@@ -422,7 +430,7 @@ pub extern "C" fn hydra_replay(
     windows: &[Window],
 ) -> u32
     ensures { λ r. ⌜ (r ≡ number (runAnswer Refusals (now (script .entry)) (now (out .entry))))
-        × (now (area .exit) ≡ areaAfter Refusals day (now (windows .entry)) (now (script .entry)) (now (area .entry)) (now (out .entry)))
+        × (now (area .exit) ≡ areaAfterRun Refusals day (now (windows .entry)) (now (script .entry)) (now (area .entry)) (now (out .entry)))
         × (now (out .exit) ≡ outAfter Refusals day (now (windows .entry)) (now (script .entry)) (now (area .entry)) (now (out .entry)))
         × (now (length .exit) ≡ lengthAfter Refusals day (now (windows .entry)) (now (script .entry)) (now (area .entry)) (now (out .entry))
         (now (length .entry))) ⌝ }
@@ -446,7 +454,8 @@ pub extern "C" fn hydra_why(
     windows: &[Window],
 ) -> u32
     ensures { λ r. ⌜ (r ≡ number (runAnswer (Reasons j) (now (script .entry)) (now (out .entry))))
-        × (now (area .exit) ≡ areaAfter (Reasons j) day (now (windows .entry)) (now (script .entry)) (now (area .entry)) (now (out .entry)))
+        × (now (area .exit) ≡ areaAfterRun (Reasons j) day (now (windows .entry)) (now (script .entry))
+        (now (area .entry)) (now (out .entry)))
         × (now (out .exit) ≡ outAfter (Reasons j) day (now (windows .entry)) (now (script .entry)) (now (area .entry)) (now (out .entry)))
         × (now (length .exit) ≡ lengthAfter (Reasons j) day (now (windows .entry)) (now (script .entry)) (now (area .entry))
         (now (out .entry)) (now (length .entry))) ⌝ }

@@ -5,7 +5,7 @@ ghost use lib.ListN.{length};
 ghost use Rattle.lists.specs.Bytes.{Put, Tried};
 ghost use Rattle.desk.specs.reasons.Reasons.{reasonLine, reason};
 ghost use Rattle.desk.specs.reasons.Inner.{ruleField};
-use machine::Told;
+use machine::NodeReport;
 use node::Ground;
 use node::Rule;
 
@@ -40,7 +40,7 @@ fn row(out: &mut [u8], line: u32, number: u32, g: Ground) -> usize
 }
 
 // The line of a node that reports; nothing of any other.
-pub fn put_reason(out: &mut [u8], at: usize, line: u32, number: u32, t: Told) -> usize
+pub fn put_reason(out: &mut [u8], at: usize, line: u32, number: u32, t: NodeReport) -> usize
     ensures { λ r. ⌜ Tried (now (out .entry)) at (reason line number t) r (now (out .exit)) ⌝ }
 {
     if !t.live {

@@ -26,8 +26,9 @@ use Rattle.windows.specs.declared.Window.{Window}
 use Rattle.machine.specs.hours.Hours.{Timed, timedLoadAnswer, timedAnswer}
 use Rattle.machine.specs.hours.Calls.{Call}
 use Rattle.group.specs.Places.{topPlaces, place}
-use Rattle.group.specs.Group.{Seat, Empty, Taken, Group, isNumber, seatOf, packetsIn, ownShare, commonShare, beyond, common, ownArea}
-use Rattle.group.specs.Calls.{GroupCall, LoadSite, SiteCall, seatAnswer, isSend, plainAnswer, isShort, isCrowded, isAccepted}
+use Rattle.group.specs.Group.{SiteSlot, Empty, Taken, Group, isNumber, siteSlotOf, packetsIn, ownShare, commonShare, beyond, common}
+use Rattle.group.specs.Group.{ownArea}
+use Rattle.group.specs.Calls.{GroupCall, LoadSite, SiteCall, siteSlotAnswer, isSend, plainAnswer, isShort, isCrowded, groupAccepts}
 use Rattle.group.specs.Steps.{nextBy, nextGroup, afterGroup}
 use Rattle.group.proofs.Places.{free-one}
 use Rattle.group.proofs.Shares.{spare}
@@ -38,10 +39,10 @@ fails : (a b : Bool) → (a && b) ≡ false → (a ≡ false) ⊎ (b ≡ false)
 fails a b h = ⊎-elim (λ e. inr (and-rest a b h e)) (λ e. inl e) (met? a)
 
 -- a site that has fewer than 16 packets is not refused as 17
-pub sixteen : (g : Group) (a : ℕ) (c : Call) → packetsIn (seatOf g a) < ownShare → isCrowded g (SiteCall a c) ≡ false
+pub sixteen : (g : Group) (a : ℕ) (c : Call) → packetsIn (siteSlotOf g a) < ownShare → isCrowded g (SiteCall a c) ≡ false
 unfolding isCrowded
 sixteen g a c h =
-    let s : isShort g a ≡ false = ap (λ (b : Bool). b && leb commonShare (common g)) (lt-leb ownShare (packetsIn (seatOf g a)) h) in
+    let s : isShort g a ≡ false = ap (λ (b : Bool). b && leb commonShare (common g)) (lt-leb ownShare (packetsIn (siteSlotOf g a)) h) in
     last (isSend (c .event)) (isDone (plainAnswer g (SiteCall a c))) (isShort g a) s
   where
     last : (x y z : Bool) → z ≡ false → (x && (y && z)) ≡ false
@@ -56,49 +57,49 @@ unfolding plainAnswer
 load-admits g a f t D ws h = test-met (isNumber a) _ NoSuchNode refl (done-is _ h)
 
 -- an event is not accepted where nothing is loaded
-pub empty-answer : (g : Group) (a : ℕ) (c : Call) → seatOf g a ≡ Empty → plainAnswer g (SiteCall a c) ≡ NoSuchNode
+pub empty-answer : (g : Group) (a : ℕ) (c : Call) → siteSlotOf g a ≡ Empty → plainAnswer g (SiteCall a c) ≡ NoSuchNode
 unfolding plainAnswer
-empty-answer g a c h = ap (λ (s : Seat). seatAnswer g a s c) h
+empty-answer g a c h = ap (λ (s : SiteSlot). siteSlotAnswer g a s c) h
 
-pub seat-answer : (g : Group) (a : ℕ) (c : Call) (t : Timed) → areaSize ≤ length (g .area) → seatOf g a ≡ Taken t
+pub site-slot-answer : (g : Group) (a : ℕ) (c : Call) (t : Timed) → areaSize ≤ length (g .area) → siteSlotOf g a ≡ Taken t
     → plainAnswer g (SiteCall a c) ≡ timedAnswer t (ownArea g a (packetsIn (Taken t))) (c .windows) (c .event)
 unfolding plainAnswer
-seat-answer g a c t r h = ap (λ (s : Seat). seatAnswer g a s c) h ∙ skip _ _ _ _ (le-ltb (length (g .area)) areaSize r) refl
+site-slot-answer g a c t r h = ap (λ (s : SiteSlot). siteSlotAnswer g a s c) h ∙ skip _ _ _ _ (le-ltb (length (g .area)) areaSize r) refl
 
 -- so it is of a number
 pub call-number : (g : Group) (a : ℕ) (c : Call) → isDone (plainAnswer g (SiteCall a c)) ≡ true → isNumber a ≡ true
 call-number g a c h = ⊎-elim (λ e. e)
     (λ e. clash (isDone (plainAnswer g (SiteCall a c))) h (ap isDone (empty-answer g a c (skip _ _ _ _ e refl)))) (met? (isNumber a))
 
-module _ (g : Group) (a j : ℕ) (ws : List Window) (h : isAccepted g (SiteCall a (record { event = Send j; windows = ws })) ≡ true) where
+module _ (g : Group) (a j : ℕ) (ws : List Window) (h : groupAccepts g (SiteCall a (record { event = Send j; windows = ws })) ≡ true) where
   abbrev c : GroupCall
   c = SiteCall a (record { event = Send j; windows = ws })
 
   -- a send that is not refused as 17: the site has fewer than 16, or a common place is left
-  pub unshort : (packetsIn (seatOf g a) < ownShare) ⊎ (total (map beyond (g .seats)) < commonShare)
+  pub unshort : (packetsIn (siteSlotOf g a) < ownShare) ⊎ (total (map beyond (g .siteSlots)) < commonShare)
   unfolding isCrowded common
   unshort =
       let d : isDone (plainAnswer g c) ≡ true = and-left (isDone (plainAnswer g c)) (not (isCrowded g c)) h in
       let n : isCrowded g c ≡ false = not-true _ (and-right (isDone (plainAnswer g c)) (not (isCrowded g c)) h) in
       let s : isShort g a ≡ false = and-rest (isDone (plainAnswer g c)) (isShort g a) n d in
       ⊎-elim (λ e. inl (leb-false _ _ e)) (λ e. inr (leb-false _ _ e))
-      (fails (leb ownShare (packetsIn (seatOf g a))) (leb commonShare (common g)) s)
+      (fails (leb ownShare (packetsIn (siteSlotOf g a))) (leb commonShare (common g)) s)
 
   pub finds : Ground g → place 0 (g .places) < topPlaces
   finds G =
       let m : isNumber a ≡ true = call-number g a _ (and-left (isDone (plainAnswer g c)) (not (isCrowded g c)) h) in
       let i = number-is a m in
-      let e : packetsIn (seatOf g a) ≡ packetsIn (getD (g .seats) (a - 1) Empty) = ap packetsIn (hit (isNumber a) _ _ m) in
-      let u = spare (g .seats) (a - 1) (G .seats) (omega (arith, i .from, i .to)) (G .shared)
+      let e : packetsIn (siteSlotOf g a) ≡ packetsIn (getD (g .siteSlots) (a - 1) Empty) = ap packetsIn (hit (isNumber a) _ _ m) in
+      let u = spare (g .siteSlots) (a - 1) (G .siteSlots) (omega (arith, i .from, i .to)) (G .shared)
       (⊎-elim (λ x. inl (omega arith)) (λ x. inr x) unshort) in
       let z = free-one (g .places) (omega (arith, G .all, G .places)) in
       omega (arith, G .places)
 
   -- the packet is written there
-  pub writes : Ground g → (t : Timed) → seatOf g a ≡ Taken t → afterGroup g c .area
+  pub writes : Ground g → (t : Timed) → siteSlotOf g a ≡ Taken t → afterGroup g c .area
       ≡ placed (g .area) (place 0 (g .places)) (packetOf (memberAt (t .site) j .node))
   unfolding afterGroup nextGroup
   writes G t e =
       let f = finds G in
-      ap (λ (x : Group). x .area) (hit _ _ g h ∙ ap (λ (s : Seat). nextBy g a s (record { event = Send j; windows = ws })) e)
+      ap (λ (x : Group). x .area) (hit _ _ g h ∙ ap (λ (s : SiteSlot). nextBy g a s (record { event = Send j; windows = ws })) e)
       ∙ hit _ _ (g .area) (le-leb (packetSize * place 0 (g .places) + packetSize) (length (g .area)) (omega (arith, f, G .room)))

@@ -19,30 +19,30 @@ use Rattle.wire.specs.Layout.{packetSize}
 use Rattle.wire.specs.Reads.{partOf, placed, hasPart}
 use Rattle.wire.proofs.Laws.{other-part, length-placed}
 use Rattle.site.specs.Counts.{packets}
-use Rattle.machine.specs.hours.Calls.{TimedWorld}
-use Rattle.group.specs.Places.{topPlaces, entry, siteOf, place, filled, freed}
-use Rattle.group.specs.Group.{Seat, Group, isNumber, seatOf, packetsIn, commonShare, beyond, packetPlace}
+use Rattle.machine.specs.hours.Calls.{TimedState}
+use Rattle.group.specs.Places.{topPlaces, entry, siteOf, place, placeFilled, freed}
+use Rattle.group.specs.Group.{SiteSlot, Group, isNumber, siteSlotOf, packetsIn, commonShare, beyond, packetPlace}
 use Rattle.group.specs.Fit.{howOften, used, usedBy}
 use Rattle.group.proofs.Places.{place-found, place-other, often-set, zero-of, freed-from, length-freed, place-freed, used-freed}
 use Rattle.group.proofs.Places.{own-freed, other-freed}
-use Rattle.group.proofs.Ground.{Ground, Mirror, number-is, site-is, seat-other, bound, ground-set}
+use Rattle.group.proofs.Ground.{Ground, Mirror, number-is, site-is, site-slot-other, bound, ground-set}
 
-module _ (g : Group) (G : Ground g) (b : ℕ) (n : isNumber b ≡ true) (x : Seat) where
+module _ (g : Group) (G : Ground g) (b : ℕ) (n : isNumber b ≡ true) (x : SiteSlot) where
   -- The places stay
 
   abbrev pub stays : Group
-  stays = record { seats = set (g .seats) (b - 1) x; places = g .places; area = g .area }
+  stays = record { siteSlots = set (g .siteSlots) (b - 1) x; places = g .places; area = g .area }
 
-  pub stays-ground : packetsIn x ≡ packetsIn (seatOf g b) → Ground stays
+  pub stays-ground : packetsIn x ≡ packetsIn (siteSlotOf g b) → Ground stays
   stays-ground e = ground-set g G b n x (g .places) (g .area) (G .places) (G .room) (G .own b n ∙ sym e) (λ c m h. refl)
       (ap (λ (k : ℕ). used (g .places) + k) (sym e)) (omega (arith, G .shared, e))
 
-  pub stays-other : (a : ℕ) (w : TimedWorld) → a ≢ b → Mirror g a w → Mirror stays a w
+  pub stays-other : (a : ℕ) (w : TimedState) → a ≢ b → Mirror g a w → Mirror stays a w
   stays-other a w h M =
       record {
         number = M .number;
-        seat = seat-other (g .seats) b x n a h
-            ∙ M .seat;
+        siteSlot = site-slot-other (g .siteSlots) b x n a h
+            ∙ M .siteSlot;
         room = M .room;
         low = M .low;
         parts = M .parts;
@@ -51,14 +51,14 @@ module _ (g : Group) (G : Ground g) (b : ℕ) (n : isNumber b ≡ true) (x : Sea
 
   -- The packets of a site that mirrors another have entries within their range
 
-  in-range : (a : ℕ) (w : TimedWorld) → Mirror g a w → packets (w .timed .site .sent) ≤ 144
-  in-range a w M = let e : packetsIn (seatOf g a) ≡ packets (w .timed .site .sent) = ap packetsIn (M .seat)
+  in-range : (a : ℕ) (w : TimedState) → Mirror g a w → packets (w .timed .site .sent) ≤ 144
+  in-range a w M = let e : packetsIn (siteSlotOf g a) ≡ packets (w .timed .site .sent) = ap packetsIn (M .siteSlot)
       in omega (arith, bound g G a (M .number))
 
   -- The places are freed
 
   abbrev pub frees : Group
-  frees = record { seats = set (g .seats) (b - 1) x; places = freed b (g .places); area = g .area }
+  frees = record { siteSlots = set (g .siteSlots) (b - 1) x; places = freed b (g .places); area = g .area }
 
   pub frees-ground : packetsIn x ≡ 0 → Ground frees
   frees-ground e =
@@ -68,11 +68,11 @@ module _ (g : Group) (G : Ground g) (b : ℕ) (n : isNumber b ≡ true) (x : Sea
       (λ c m h. other-freed b c (g .places) (number-is c m .from) h)
       (let u = used-freed b (g .places) (i .from) in omega (arith, G .own b n)) (omega (arith, G .shared))
 
-  pub frees-other : (a : ℕ) (w : TimedWorld) → a ≢ b → Mirror g a w → Mirror frees a w
+  pub frees-other : (a : ℕ) (w : TimedState) → a ≢ b → Mirror g a w → Mirror frees a w
   frees-other a w h M =
       record {
         number = M .number;
-        seat = seat-other (g .seats) b x n a h ∙ M .seat;
+        siteSlot = site-slot-other (g .siteSlots) b x n a h ∙ M .siteSlot;
         room = M .room;
         low = λ p l. let q = same p l in let m = M .low p l in omega arith;
         parts = λ p l. ap (partOf (g .area)) (same p l) ∙ M .parts p l;
@@ -90,10 +90,14 @@ module _ (g : Group) (G : Ground g) (b : ℕ) (n : isNumber b ≡ true) (x : Sea
   module _ (q : Packet) (long : length (q .requests) ≡ 32) (free : place 0 (g .places) < topPlaces) where
     -- the entry of the new packet
     abbrev pub newest : ℕ
-    newest = entry b (packetsIn (seatOf g b) + 1)
+    newest = entry b (packetsIn (siteSlotOf g b) + 1)
 
     abbrev pub fills : Group
-    fills = record { seats = set (g .seats) (b - 1) x; places = filled newest (g .places); area = placed (g .area) (place 0 (g .places)) q }
+    fills = record {
+      siteSlots = set (g .siteSlots) (b - 1) x;
+      places = placeFilled newest (g .places);
+      area = placed (g .area) (place 0 (g .places)) q;
+    }
 
     pub free-part : hasPart (g .area) (place 0 (g .places)) ≡ true
     free-part = le-leb (packetSize * place 0 (g .places) + packetSize) (length (g .area)) (omega (arith, G .room))
@@ -102,41 +106,43 @@ module _ (g : Group) (G : Ground g) (b : ℕ) (n : isNumber b ≡ true) (x : Sea
     was-free = place-found 0 (g .places) (omega (arith, G .places))
 
     -- a count of entries
-    counts : (p : ℕ → Bool) → p 0 ≡ false → howOften p (filled newest (g .places)) ≡ howOften p (g .places) + digit (p newest)
-    counts p e =
+    counters : (p : ℕ → Bool) → p 0 ≡ false → howOften p (placeFilled newest (g .places)) ≡ howOften p (g .places) + digit (p newest)
+    counters p e =
         let o = often-set p (g .places) (place 0 (g .places)) newest (omega (arith, G .places)) in
         let z : digit (p (getD (g .places) (place 0 (g .places)) 0)) ≡ 0 = ap (λ (k : ℕ). digit (p k)) was-free ∙ ap digit e in
         omega arith
 
-    pub fills-ground : packetsIn x ≡ packetsIn (seatOf g b) + 1 → total (map beyond (g .seats)) + beyond x ≤ commonShare
-        + beyond (seatOf g b) → Ground fills
+    pub fills-ground : packetsIn x ≡ packetsIn (siteSlotOf g b) + 1 → total (map beyond (g .siteSlots)) + beyond x ≤ commonShare
+        + beyond (siteSlotOf g b) → Ground fills
     fills-ground e shared =
         let i = number-is b n in
         let m = bound g G b n in
-        let s = site-is b (packetsIn (seatOf g b) + 1) (omega arith) in
-        let mine : usedBy b (filled newest (g .places)) ≡ usedBy b (g .places) + 1 = counts (λ y. eqb (siteOf y) b) (zero-of b (i .from))
+        let s = site-is b (packetsIn (siteSlotOf g b) + 1) (omega arith) in
+        let mine : usedBy b (placeFilled newest (g .places))
+        ≡ usedBy b (g .places) + 1 = counters (λ y. eqb (siteOf y) b) (zero-of b (i .from))
         ∙ ap (λ (d : Bool). usedBy b (g .places) + digit d) (eq-eqb _ _ s) in
-        let all : used (filled newest (g .places)) ≡ used (g .places) + 1 = counts (λ y. not (eqb y 0)) refl
+        let all : used (placeFilled newest (g .places)) ≡ used (g .places) + 1 = counters (λ y. not (eqb y 0)) refl
         ∙ ap (λ (d : Bool). used (g .places) + digit (not d)) (ne-eqb newest 0 (λ z. omega (arith, i .from, z))) in
-        ground-set g G b n x (filled newest (g .places)) (placed (g .area) (place 0 (g .places)) q)
+        ground-set g G b n x (placeFilled newest (g .places)) (placed (g .area) (place 0 (g .places)) q)
         (length-set (g .places) (place 0 (g .places)) newest ∙ G .places)
         (let l = length-placed (g .area) (place 0 (g .places)) q long free-part in omega (arith, G .room))
         (omega (arith, G .own b n))
         (λ c k h.
         let j = number-is c k in
         let d : digit (eqb (siteOf newest) c) ≡ 0 = ap digit (ne-eqb (siteOf newest) c (λ z. h (sym z ∙ s))) in
-        let o : usedBy c (filled newest (g .places)) ≡ usedBy c (g .places) + digit (eqb (siteOf newest) c) =
-        counts (λ y. eqb (siteOf y) c) (zero-of c (j .from)) in
+        let o : usedBy c (placeFilled newest (g .places)) ≡ usedBy c (g .places) + digit (eqb (siteOf newest) c) =
+        counters (λ y. eqb (siteOf y) c) (zero-of c (j .from)) in
         omega arith)
         (omega arith) shared
 
     -- an entry of another site, or of an older packet of this one, stays where it is with what lies there
     module _ (c : ℕ) (from : 1 ≤ c) (other : newest ≢ c) where
-      pub kept-place : place c (filled newest (g .places)) ≡ place c (g .places)
+      pub kept-place : place c (placeFilled newest (g .places)) ≡ place c (g .places)
       kept-place = place-other c newest (g .places) (place 0 (g .places)) (λ e. omega (arith, was-free, e)) other
 
       pub kept-part : place c (g .places) < topPlaces
-          → partOf (placed (g .area) (place 0 (g .places)) q) (place c (filled newest (g .places))) ≡ partOf (g .area) (place c (g .places))
+          → partOf (placed (g .area) (place 0 (g .places)) q) (place c (placeFilled newest (g .places)))
+          ≡ partOf (g .area) (place c (g .places))
       kept-part l =
           let f = place-found c (g .places) (omega (arith, G .places)) in
           ap (partOf (placed (g .area) (place 0 (g .places)) q)) kept-place
@@ -144,18 +150,18 @@ module _ (g : Group) (G : Ground g) (b : ℕ) (n : isNumber b ≡ true) (x : Sea
           (λ e. let z = sym f ∙ ap (λ (k : ℕ). getD (g .places) k 0) e ∙ was-free in omega arith)
 
     -- entries that were nowhere and are not the new one are nowhere
-    pub kept-fresh : (c : ℕ) → newest ≢ c → ((k : ℕ) → getD (g .places) k 0 ≢ c) → (k : ℕ) → getD (filled newest (g .places)) k 0 ≢ c
+    pub kept-fresh : (c : ℕ) → newest ≢ c → ((k : ℕ) → getD (g .places) k 0 ≢ c) → (k : ℕ) → getD (placeFilled newest (g .places)) k 0 ≢ c
     kept-fresh c h f k e =
         same-or-not k (place 0 (g .places))
         (λ z. h (sym (getD-set-same (g .places) (place 0 (g .places)) newest 0 (omega (arith, G .places)))
-        ∙ ap (λ (i : ℕ). getD (filled newest (g .places)) i 0) (sym z) ∙ e))
+        ∙ ap (λ (i : ℕ). getD (placeFilled newest (g .places)) i 0) (sym z) ∙ e))
         (λ z. f k (sym (getD-set-other (g .places) (place 0 (g .places)) k newest 0 z) ∙ e))
 
-    pub fills-other : (a : ℕ) (w : TimedWorld) → a ≢ b → Mirror g a w → Mirror fills a w
+    pub fills-other : (a : ℕ) (w : TimedState) → a ≢ b → Mirror g a w → Mirror fills a w
     fills-other a w h M =
         record {
           number = M .number;
-          seat = seat-other (g .seats) b x n a h ∙ M .seat;
+          siteSlot = site-slot-other (g .siteSlots) b x n a h ∙ M .siteSlot;
           room = M .room;
           low = λ p l. let k = kept-place (entry a (p + 1)) (positive (p + 1)) (differs (p + 1) (omega (arith, in-range a w M))) in let m =
               M .low p l in omega arith;
@@ -169,5 +175,5 @@ module _ (g : Group) (G : Ground g) (b : ℕ) (n : isNumber b ≡ true) (x : Sea
 
         differs : (p : ℕ) → p < 256 → newest ≢ entry a p
         differs p l e =
-            let s = site-is b (packetsIn (seatOf g b) + 1) (omega (arith, bound g G b n)) in
+            let s = site-is b (packetsIn (siteSlotOf g b) + 1) (omega (arith, bound g G b n)) in
             h (sym (site-is a p l) ∙ ap siteOf (sym e) ∙ s)

@@ -25,7 +25,7 @@ use Rattle.group.specs.Calls.{GroupCall, LoadSite, plainAnswer, isCrowde
 use Rattle.group.specs.Steps.{nextGroup, afterGroup, runGroup}
 use Rattle.group.proofs.Stories.{Fine}
 use Rattle.group.proofs.Theorem.{vacant-fine, run-fine}
-use Rattle.group.proofs.Sheets.{sends, closes, callOf, Sheet, sheetOf, numberBy, seatIn, answers-by, At, stepOn, runOn, allDone}
+use Rattle.group.proofs.Sheets.{sends, closes, callOf, Sheet, sheetOf, numberBy, siteSlotIn, answers-by, At, stepOn, runOn, allDone}
 use Rattle.group.proofs.Sheets.{callAt, runs-by}
 
 -- site 1 has 19 nodes, site 2 has two
@@ -42,7 +42,7 @@ loads = LoadSite 1 (config 19) table 1 [] ∷ LoadSite 2 (config 2) table 1 [] �
 
 unfoldable pub atLoad : Sheet
 atLoad = record {
-  seats = Taken (loadedTimed (config 19) table 1 []) ∷ Taken (loadedTimed (config 2) table 1 [])
+  siteSlots = Taken (loadedTimed (config 19) table 1 []) ∷ Taken (loadedTimed (config 2) table 1 [])
       ∷ replicate 6 Empty;
   places = replicate 256 0;
 }
@@ -76,9 +76,9 @@ all-done = (refl, refl)
 abbrev placeIn : Sheet → ℕ → ℕ → ℕ
 placeIn s a p = place (entry a p) (s .places)
 
-by-sheet : (numberBy (runOn atLoad first) (seatIn (runOn atLoad first) 1) (sends 19) ≡ 17)
-    × (numberBy (runOn atLoad first) (seatIn (runOn atLoad first) 1) (sends 1) ≡ 7) × (placeIn (runOn atLoad first) 2 1 ≡ 144)
-    × (placeIn (runOn atLoad second) 2 2 ≡ 0) × (numberBy (runOn atLoad first) (seatIn (runOn atLoad first) 3) closes ≡ 3)
+by-sheet : (numberBy (runOn atLoad first) (siteSlotIn (runOn atLoad first) 1) (sends 19) ≡ 17)
+    × (numberBy (runOn atLoad first) (siteSlotIn (runOn atLoad first) 1) (sends 1) ≡ 7) × (placeIn (runOn atLoad first) 2 1 ≡ 144)
+    × (placeIn (runOn atLoad second) 2 2 ≡ 0) × (numberBy (runOn atLoad first) (siteSlotIn (runOn atLoad first) 3) closes ≡ 3)
 unfolding atLoad runOn stepOn allSend total siteSend siteClose sendAnswer sentSite closedSite begun loadedTimed loadedSite loadedMember
     config table tab timedLoadAnswer loadAnswer tableOk rowOk startAnswer
     configOk flagsOk allBelow listOk givenTable place freed
@@ -101,9 +101,9 @@ module _ (area : List ℕ) (room : areaSize ≤ length area) where
   refusals =
       let e = by first (all-done .0) in
       let r = run-fine area room (runGroup (vacant area) loads) fine (map callAt first) .ground .room in (
-        answers-by (reached first) r 1 (sends 19) ∙ ap (λ (s : Sheet). numberBy s (seatIn s 1) (sends 19)) e ∙ by-sheet .0,
-        answers-by (reached first) r 1 (sends 1) ∙ ap (λ (s : Sheet). numberBy s (seatIn s 1) (sends 1)) e ∙ by-sheet .1,
-        answers-by (reached first) r 3 closes ∙ ap (λ (s : Sheet). numberBy s (seatIn s 3) closes) e ∙ by-sheet .4,
+        answers-by (reached first) r 1 (sends 19) ∙ ap (λ (s : Sheet). numberBy s (siteSlotIn s 1) (sends 19)) e ∙ by-sheet .0,
+        answers-by (reached first) r 1 (sends 1) ∙ ap (λ (s : Sheet). numberBy s (siteSlotIn s 1) (sends 1)) e ∙ by-sheet .1,
+        answers-by (reached first) r 3 closes ∙ ap (λ (s : Sheet). numberBy s (siteSlotIn s 3) closes) e ∙ by-sheet .4,
       )
 
   -- packet 1 of site 2 lies behind those of site 1, and packet 2 in the lowest place that their close freed

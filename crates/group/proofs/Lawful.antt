@@ -27,17 +27,17 @@ use Rattle.agreement.specs.daily.Daily.{eventsOfAll, beginBy, finalBy}
 use Rattle.agreement.proofs.daily.Theorem.{daily}
 
 pub record Lawful (s : Site) : Type 0 where
-  pub counts : Counts (s .sent)
+  pub counters : Counts (s .sent)
   pub quiet : s .negotiates ≡ false → packets (s .sent) ≡ 0
-  pub seat : (j : ℕ) → Acts s j → j - 1 < 32
+  pub siteSlot : (j : ℕ) → Acts s j → j - 1 < 32
   pub long : (j : ℕ) → isLive (memberAt s j) ≡ true → length (packetOf (memberAt s j .node) .requests) ≡ 32
 
 lawful-of : (s : Site) (area : List ℕ) (air : List Packet) → Sound s area air → Lawful s
 lawful-of s area air h =
     record {
-      counts = h .counts;
+      counters = h .counters;
       quiet = λ e. sym (h .count) ∙ ap length (h .quiet e);
-      seat = λ j a. below-32 s j h a;
+      siteSlot = λ j a. below-32 s j h a;
       long = λ j l. packet-long (memberAt s j .node) (h .each (j - 1) .up (live-up (memberAt s j) l) .long);
     }
 

@@ -15,7 +15,7 @@ use Rattle.node.specs.declared.Answer.the-variants.{Done, NoSuchNode, WrongPhas
 use Rattle.node.proofs.Answers.{done-is}
 use Rattle.wire.specs.Reads.{partOf}
 use Rattle.site.specs.Counts.{packets}
-use Rattle.site.specs.Members.{channelOf, memberAt, outside, isLive, put}
+use Rattle.site.specs.Members.{headerOf, memberAt, outside, isLive, put}
 use Rattle.site.specs.Answers.{areaSize, isPacket, answerPart, siteHear, eventAnswer, answerOf}
 use Rattle.site.specs.Steps.{heardSite, heardMember, nextSite, siteAfter}
 use Rattle.site.specs.Events.{isEnd}
@@ -25,7 +25,7 @@ use Rattle.site.specs.declared.Event.the-variants.{Send, Hear, Close, Take, End
 use Rattle.site.proofs.Accepted.{answered, hear-accepted}
 use Rattle.windows.specs.Windows.{listOk}
 use Rattle.windows.specs.declared.Window.{Window}
-use Rattle.machine.specs.hours.Hours.{Timed, epochAfter, nextEpoch, givenSite, beginsEpoch, timedAnswer, givenBefore, nextTimed, timedAfter}
+use Rattle.machine.specs.hours.Hours.{Timed, epochAfter, nextInDay, givenSite, beginsEpoch, timedAnswer, givenBefore, nextTimed, timedAfter}
 
 -- two areas, alike in the parts of n packets
 pub record Alike (x y : List ℕ) (n : ℕ) : Type 0 where
@@ -39,12 +39,12 @@ module _ (s : Site) (x y : List ℕ) (h : Alike x y (packets (s .sent))) where
   hear-alike j p =
       ap (λ (r : Answer). cond (outside (s .config) j) NoSuchNode
       (cond (not (s .negotiates)) WrongPhase (cond (not (isLive (memberAt s j))) NotLive r)))
-      (past-test (not (isPacket (channelOf s) p)) NoSuchPacket (answerPart (channelOf s) (memberAt s j) (partOf x (p - 1)))
-      (answerPart (channelOf s) (memberAt s j) (partOf y (p - 1))) (λ d.
-      let e : isPacket (channelOf s) p ≡ true = not-false _ d in
+      (past-test (not (isPacket (headerOf s) p)) NoSuchPacket (answerPart (headerOf s) (memberAt s j) (partOf x (p - 1)))
+      (answerPart (headerOf s) (memberAt s j) (partOf y (p - 1))) (λ d.
+      let e : isPacket (headerOf s) p ≡ true = not-false _ d in
       let l : 1 ≤ p = leb-true _ _ (and-left (leb 1 p) (leb p (packets (s .sent))) e) in
       let m : p ≤ packets (s .sent) = leb-true _ _ (and-right (leb 1 p) (leb p (packets (s .sent))) e) in
-      ap (answerPart (channelOf s) (memberAt s j)) (h .parts (p - 1) (omega arith))))
+      ap (answerPart (headerOf s) (memberAt s j)) (h .parts (p - 1) (omega arith))))
 
   event-alike : (e : Event) → eventAnswer s x e ≡ eventAnswer s y e
   event-alike (Send j) = refl
@@ -97,7 +97,7 @@ module _ (t : Timed) (x y : List ℕ) (ws : List Window) (h : Alike x y (packets
       let k : Alike x y (packets (givenBefore t ws e .sent)) =
       record { left = h .left; right = h .right; parts = λ p l. h .parts p (omega (arith, before-sent e)) } in
       let q = site-alike (givenBefore t ws e) x y k e in
-      λ i. record { site = q i; day = cond (beginsEpoch t e) (nextEpoch (t .day)) (t .day) }
+      λ i. record { site = q i; day = cond (beginsEpoch t e) (nextInDay (t .day)) (t .day) }
 
   pub timed-after : (e : Event) → timedAfter t x ws e ≡ timedAfter t y ws e
   unfolding timedAfter

@@ -25,31 +25,31 @@ use Rattle.site.specs.declared.Event.{Event}
 use Rattle.site.specs.declared.Event.the-variants.{Send, Hear, Close, Take, End, Want, Crash, Restart}
 use Rattle.windows.specs.declared.Window.{Window}
 use Rattle.machine.specs.hours.Hours.{Timed, timedAnswer, timedAfter}
-use Rattle.machine.specs.hours.Calls.{Call, TimedWorld, afterCall}
-use Rattle.group.specs.Places.{topPlaces, entry, place, filled}
-use Rattle.group.specs.Group.{Seat, Empty, Taken, Group, isNumber, seatOf, packetsIn, packetPlace, ownArea}
-use Rattle.group.specs.Calls.{SiteCall, isSend, plainAnswer, isCrowded, isAccepted}
+use Rattle.machine.specs.hours.Calls.{Call, TimedState, afterCall}
+use Rattle.group.specs.Places.{topPlaces, entry, place, placeFilled}
+use Rattle.group.specs.Group.{SiteSlot, Empty, Taken, Group, isNumber, siteSlotOf, packetsIn, packetPlace, ownArea}
+use Rattle.group.specs.Calls.{SiteCall, isSend, plainAnswer, isCrowded, groupAccepts}
 use Rattle.group.specs.Steps.{nextBy}
 use Rattle.group.proofs.Places.{place-new, freed-from}
 use Rattle.group.proofs.Parts.{own-part, own-long, place-part}
 use Rattle.group.proofs.Looks.{Alike, timed-answer, timed-after}
 use Rattle.group.proofs.Lawful.{Lawful}
-use Rattle.group.proofs.Ground.{Ground, Mirror, number-is, site-is, seat-same, bound}
+use Rattle.group.proofs.Ground.{Ground, Mirror, number-is, site-is, site-slot-same, bound}
 use Rattle.group.proofs.Changes.{stays, stays-ground, stays-other, frees, frees-ground, frees-other, fills, free-part, fills-ground}
 use Rattle.group.proofs.Changes.{kept-place, kept-part, kept-fresh, fills-other}
 use Rattle.group.proofs.Sites.{area-kept, sent-kept, closed-sent, sender, sent-more, sent-area}
-use Rattle.group.proofs.Admits.{seat-answer, unshort, finds}
+use Rattle.group.proofs.Admits.{site-slot-answer, unshort, finds}
 
 -- a call of number b made h of g, and site b mirrors w then
-pub record Stepped (g h : Group) (b : ℕ) (w : TimedWorld) : Type 0 where
+pub record Stepped (g h : Group) (b : ℕ) (w : TimedState) : Type 0 where
   pub ground : Ground h
-  pub others : (a : ℕ) (v : TimedWorld) → a ≢ b → Mirror g a v → Mirror h a v
+  pub others : (a : ℕ) (v : TimedState) → a ≢ b → Mirror g a v → Mirror h a v
   pub itself : Mirror h b w
 
 abbrev pub callOf : Event → List Window → Call
 callOf e ws = record { event = e; windows = ws }
 
-module _ (g : Group) (G : Ground g) (b : ℕ) (w : TimedWorld) (M : Mirror g b w) where
+module _ (g : Group) (G : Ground g) (b : ℕ) (w : TimedState) (M : Mirror g b w) where
   abbrev t : Timed
   t = w .timed
 
@@ -66,22 +66,22 @@ module _ (g : Group) (G : Ground g) (b : ℕ) (w : TimedWorld) (M : Mirror g b w
   }
 
   pub same-answer : (c : Call) → plainAnswer g (SiteCall b c) ≡ timedAnswer t (w .area) (c .windows) (c .event)
-  same-answer c = seat-answer g b c t (G .room) (M .seat) ∙ timed-answer t (ownArea g b n) (w .area) (c .windows) alike (c .event)
+  same-answer c = site-slot-answer g b c t (G .room) (M .siteSlot) ∙ timed-answer t (ownArea g b n) (w .area) (c .windows) alike (c .event)
 
-  count : packetsIn (seatOf g b) ≡ n
-  count = ap packetsIn (M .seat)
+  count : packetsIn (siteSlotOf g b) ≡ n
+  count = ap packetsIn (M .siteSlot)
 
   module _ (ws : List Window) (L : Lawful (w .timed .site)) where
-    -- the seat after an event
-    abbrev x : Event → Seat
+    -- the site slot after an event
+    abbrev x : Event → SiteSlot
     x e = Taken (timedAfter t (ownArea g b n) ws e)
 
-    same-seat : (e : Event) → x e ≡ Taken (timedAfter t (w .area) ws e)
-    same-seat e = ap Taken (timed-after t (ownArea g b n) (w .area) ws alike e)
+    same-site-slot : (e : Event) → x e ≡ Taken (timedAfter t (w .area) ws e)
+    same-site-slot e = ap Taken (timed-after t (ownArea g b n) (w .area) ws alike e)
 
-    seat-is : (e : Event) → cond (isNumber b) (getD (set (g .seats) (b - 1) (x e)) (b - 1) Empty) Empty
+    site-slot-is : (e : Event) → cond (isNumber b) (getD (set (g .siteSlots) (b - 1) (x e)) (b - 1) Empty) Empty
         ≡ Taken (timedAfter t (w .area) ws e)
-    seat-is e = seat-same (g .seats) b (x e) (M .number) (G .seats) ∙ same-seat e
+    site-slot-is e = site-slot-same (g .siteSlots) b (x e) (M .number) (G .siteSlots) ∙ same-site-slot e
 
     -- the packets stay
     stay : (e : Event) → isSend e ≡ false → isClose e ≡ false → isDone (timedAnswer t (w .area) ws e) ≡ true
@@ -90,11 +90,11 @@ module _ (g : Group) (G : Ground g) (b : ℕ) (w : TimedWorld) (M : Mirror g b w
         let m : packets (timedAfter t (w .area) ws e .site .sent) ≡ n = sent-kept t (w .area) ws L e h k d in
         let r : areaAfter (t .site) (w .area) e ≡ w .area = area-kept (t .site) (w .area) e h in
         record {
-          ground = stays-ground g G b (M .number) (x e) (ap packetsIn (same-seat e) ∙ m ∙ sym count);
+          ground = stays-ground g G b (M .number) (x e) (ap packetsIn (same-site-slot e) ∙ m ∙ sym count);
           others = stays-other g G b (M .number) (x e);
           itself = record {
             number = M .number;
-            seat = seat-is e;
+            siteSlot = site-slot-is e;
             room = subst (λ (y : List ℕ). areaSize ≤ length y) (sym r) (M .room);
             low = λ p l. M .low p (omega arith);
             parts = λ p l. M .parts p (omega arith) ∙ ap (λ (y : List ℕ). partOf y p) (sym r);
@@ -109,11 +109,11 @@ module _ (g : Group) (G : Ground g) (b : ℕ) (w : TimedWorld) (M : Mirror g b w
         let m : packets (timedAfter t (w .area) ws Close .site .sent) ≡ 0 = closed-sent t (w .area) ws d in
         let r : areaAfter (t .site) (w .area) Close ≡ w .area = area-kept (t .site) (w .area) Close refl in
         record {
-          ground = frees-ground g G b (M .number) (x Close) (ap packetsIn (same-seat Close) ∙ m);
+          ground = frees-ground g G b (M .number) (x Close) (ap packetsIn (same-site-slot Close) ∙ m);
           others = frees-other g G b (M .number) (x Close);
           itself = record {
             number = M .number;
-            seat = seat-is Close;
+            siteSlot = site-slot-is Close;
             room = subst (λ (y : List ℕ). areaSize ≤ length y) (sym r) (M .room);
             low = λ p l. absurd (omega arith);
             parts = λ p l. absurd (omega arith);
@@ -123,7 +123,7 @@ module _ (g : Group) (G : Ground g) (b : ℕ) (w : TimedWorld) (M : Mirror g b w
         }
 
     -- one packet more
-    module _ (j : ℕ) (h : isAccepted g (SiteCall b (callOf (Send j) ws)) ≡ true) where
+    module _ (j : ℕ) (h : groupAccepts g (SiteCall b (callOf (Send j) ws)) ≡ true) where
       d : isDone (timedAnswer t (w .area) ws (Send j)) ≡ true
       d = ap isDone (sym (same-answer (callOf (Send j) ws)))
           ∙ and-left (isDone (plainAnswer g (SiteCall b (callOf (Send j) ws)))) (not (isCrowded g (SiteCall b (callOf (Send j) ws)))) h
@@ -153,11 +153,12 @@ module _ (g : Group) (G : Ground g) (b : ℕ) (w : TimedWorld) (M : Mirror g b w
       area-is = sent-area t (w .area) ws j L d part
 
       abbrev entryNew : ℕ
-      entryNew = entry b (packetsIn (seatOf g b) + 1)
+      entryNew = entry b (packetsIn (siteSlotOf g b) + 1)
 
-      new-place : place entryNew (filled entryNew (g .places)) ≡ place 0 (g .places)
+      new-place : place entryNew (placeFilled entryNew (g .places)) ≡ place 0 (g .places)
       new-place = place-new entryNew (g .places)
-          (λ k. M .fresh k (packetsIn (seatOf g b) + 1) (omega (arith, count)) (omega (arith, count, few))) (omega (arith, free, G .places))
+          (λ k. M .fresh k (packetsIn (siteSlotOf g b) + 1) (omega (arith, count)) (omega (arith, count, few)))
+          (omega (arith, free, G .places))
 
       positive : (p : ℕ) → 1 ≤ entry b p
       positive p = let z = number-is b (M .number) in omega (arith, z .from)
@@ -171,7 +172,7 @@ module _ (g : Group) (G : Ground g) (b : ℕ) (w : TimedWorld) (M : Mirror g b w
       low-new : (p : ℕ) → p < n + 1 → packetPlace new b (p + 1) < topPlaces
       low-new p l =
           same-or-not p n
-          (λ e. let z = ap (λ (c : ℕ). place c (filled entryNew (g .places))) (newest-is p e) ∙ new-place in omega (arith, free, z))
+          (λ e. let z = ap (λ (c : ℕ). place c (placeFilled entryNew (g .places))) (newest-is p e) ∙ new-place in omega (arith, free, z))
           (λ e. let k : p < n = omega (arith, l, e)
           in let z = kept-place g G b (M .number) (x (Send j)) q long free (entry b (p + 1)) (positive (p + 1)) (older p k)
           in omega (arith, M .low p k, z))
@@ -180,7 +181,7 @@ module _ (g : Group) (G : Ground g) (b : ℕ) (w : TimedWorld) (M : Mirror g b w
       parts-new p l =
           same-or-not p n
           (λ e.
-          ap (partOf (new .area)) (ap (λ (c : ℕ). place c (filled entryNew (g .places))) (newest-is p e) ∙ new-place)
+          ap (partOf (new .area)) (ap (λ (c : ℕ). place c (placeFilled entryNew (g .places))) (newest-is p e) ∙ new-place)
           ∙ same-part (g .area) (place 0 (g .places)) q long (free-part g G b (M .number) (x (Send j)) q long free)
           ∙ sym (ap (partOf (placed (w .area) n q)) e ∙ same-part (w .area) n q long part))
           (λ e.
@@ -191,7 +192,7 @@ module _ (g : Group) (G : Ground g) (b : ℕ) (w : TimedWorld) (M : Mirror g b w
 
       filled-so : Stepped g new b (afterCall w (callOf (Send j) ws))
       filled-so =
-          let m : packetsIn (x (Send j)) ≡ packetsIn (seatOf g b) + 1 = ap packetsIn (same-seat (Send j)) ∙ more
+          let m : packetsIn (x (Send j)) ≡ packetsIn (siteSlotOf g b) + 1 = ap packetsIn (same-site-slot (Send j)) ∙ more
           ∙ ap (λ (k : ℕ). k + 1) (sym count) in
           record {
             ground = fills-ground g G b (M .number) (x (Send j)) q long free m
@@ -199,7 +200,7 @@ module _ (g : Group) (G : Ground g) (b : ℕ) (w : TimedWorld) (M : Mirror g b w
             others = fills-other g G b (M .number) (x (Send j)) q long free;
             itself = record {
               number = M .number;
-              seat = seat-is (Send j);
+              siteSlot = site-slot-is (Send j);
               room = subst (λ (y : List ℕ). areaSize ≤ length y) (sym area-is)
                   (omega (arith, M .room, length-placed (w .area) n q long part));
               low = λ p l. low-new p (omega (arith, l, more));
@@ -213,17 +214,21 @@ module _ (g : Group) (G : Ground g) (b : ℕ) (w : TimedWorld) (M : Mirror g b w
       group-is =
           let a : placed (g .area) (place 0 (g .places)) q ≡ stored (g .area) (place 0 (g .places)) q =
           sym (hit _ _ (g .area) (free-part g G b (M .number) (x (Send j)) q long free)) in
-          λ i. record { seats = set (g .seats) (b - 1) (x (Send j)); places = filled (entry b (count i + 1)) (g .places); area = a i }
+          λ i. record {
+            siteSlots = set (g .siteSlots) (b - 1) (x (Send j));
+            places = placeFilled (entry b (count i + 1)) (g .places);
+            area = a i;
+          }
 
       send : Stepped g (nextBy g b (Taken t) (callOf (Send j) ws)) b (afterCall w (callOf (Send j) ws))
       send = subst (λ (h : Group). Stepped g h b (afterCall w (callOf (Send j) ws))) group-is filled-so
 
-    pub moves : (e : Event) → isAccepted g (SiteCall b (callOf e ws)) ≡ true
+    pub moves : (e : Event) → groupAccepts g (SiteCall b (callOf e ws)) ≡ true
         → Stepped g (nextBy g b (Taken t) (callOf e ws)) b (afterCall w (callOf e ws))
     moves e h = go e h (ap isDone (sym (same-answer (callOf e ws)))
         ∙ and-left (isDone (plainAnswer g (SiteCall b (callOf e ws)))) (not (isCrowded g (SiteCall b (callOf e ws)))) h)
       where
-        go : (e : Event) → isAccepted g (SiteCall b (callOf e ws)) ≡ true → isDone (timedAnswer t (w .area) ws e) ≡ true
+        go : (e : Event) → groupAccepts g (SiteCall b (callOf e ws)) ≡ true → isDone (timedAnswer t (w .area) ws e) ≡ true
             → Stepped g (nextBy g b (Taken t) (callOf e ws)) b (afterCall w (callOf e ws))
         go (Send j) h k = send j h
         go (Hear j p) h k = stay (Hear j p) refl refl k

@@ -11,7 +11,7 @@ use lib.Dec.{eqb}
 use lib.ListN.{length, getD, set, replicate, length-map, List·getD-map}
 use Rattle.words.specs.Bits.{digit}
 use Rattle.words.proofs.Tests.{hit, skip, same-or-not}
-use Rattle.group.specs.Places.{siteOf, place, filled, freedEntry, freed}
+use Rattle.group.specs.Places.{siteOf, place, placeFilled, freedEntry, freed}
 use Rattle.group.specs.Fit.{howOften, used, usedBy}
 
 place-here : (c x : ℕ) (t : List ℕ) → x ≡ c → place c (x ∷ t) ≡ 0
@@ -40,12 +40,12 @@ place-other c y (x ∷ t) (suc k) a b =
     (λ e. place-on c x (set t k y) e ∙ ap suc (place-other c y t k a b) ∙ sym (place-on c x t e))
 
 -- an entry of which there was none lies where it was put
-pub place-new : (y : ℕ) (t : List ℕ) → ((k : ℕ) → getD t k 0 ≢ y) → place 0 t < length t → place y (filled y t) ≡ place 0 t
+pub place-new : (y : ℕ) (t : List ℕ) → ((k : ℕ) → getD t k 0 ≢ y) → place 0 t < length t → place y (placeFilled y t) ≡ place 0 t
 place-new y [] a l = absurd (omega arith)
 place-new y (x ∷ t) a l =
     same-or-not x 0
     (λ e. let z = place-here 0 x t e in ap (λ (k : ℕ). place y (set (x ∷ t) k y)) z ∙ place-here y y t refl ∙ sym z)
-    (λ e. let z = place-on 0 x t e in ap (λ (k : ℕ). place y (set (x ∷ t) k y)) z ∙ place-on y x (filled y t) (a 0)
+    (λ e. let z = place-on 0 x t e in ap (λ (k : ℕ). place y (set (x ∷ t) k y)) z ∙ place-on y x (placeFilled y t) (a 0)
     ∙ ap suc (place-new y t (λ k. a (suc k)) (omega arith)) ∙ sym z)
 
 -- where fewer are used than there are, one is free

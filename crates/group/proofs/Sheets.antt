@@ -1,4 +1,4 @@
--- Sends and closes don't look at the area: seats and places are enough to tell their answers and what they leave.
+-- Sends and closes don't look at the area: site slots and places are enough to tell their answers and what they leave.
 -- Assumes nothing.
 use mathlib.Core.Path.{_≡_, refl, sym, ap, _∙_}
 use mathlib.Core.Bool.{Bool, true, false, not, cond, _&&_}
@@ -21,8 +21,10 @@ use Rattle.site.specs.declared.Event.{Event}
 use Rattle.site.specs.declared.Event.the-variants.{Send, Close}
 use Rattle.machine.specs.hours.Hours.{Timed, timedAfter}
 use Rattle.machine.proofs.hours.Laws.{plain-answer, plain-after}
-use Rattle.group.specs.Group.{Seat, Empty, Taken, Group, isNumber, seatOf, packetsIn, ownShare, commonShare, beyond, common, ownArea}
-use Rattle.group.specs.Calls.{GroupCall, SiteCall, isSend, seatAnswer, plainAnswer, isShort, isCrowded, crowded, answerTo, isAccepted}
+use Rattle.group.specs.Group.{SiteSlot, Empty, Taken, Group, isNumber, siteSlotOf, packetsIn, ownShare, commonShare, beyond, common}
+use Rattle.group.specs.Group.{ownArea}
+use Rattle.group.specs.Calls.{GroupCall, SiteCall, isSend, siteSlotAnswer, plainAnswer, isShort, isCrowded, crowded, answerTo}
+use Rattle.group.specs.Calls.{groupAccepts}
 use Rattle.group.specs.Steps.{nextPlaces, nextBy, nextGroup, afterGroup, runGroup}
 use Rattle.group.proofs.Parts.{own-long}
 use Rattle.group.proofs.Admits.{empty-answer}
@@ -55,28 +57,29 @@ no-end closes = refl
 
 -- a group without its area
 pub record Sheet : Type 0 where
-  pub seats : List Seat
+  pub siteSlots : List SiteSlot
   pub places : List ℕ
 
 abbrev pub sheetOf : Group → Sheet
-sheetOf g = record { seats = g .seats; places = g .places }
+sheetOf g = record { siteSlots = g .siteSlots; places = g .places }
 
-abbrev pub numberBy : Sheet → Seat → Act → ℕ
+abbrev pub numberBy : Sheet → SiteSlot → Act → ℕ
 numberBy s Empty x = 3
 numberBy s (Taken t) x = cond (isSend (eventOf x)
-    && (isDone (answerBy (t .site) x) && (leb ownShare (packetsIn (Taken t)) && leb commonShare (total (map beyond (s .seats)))))) crowded
+    && (isDone (answerBy (t .site) x)
+    && (leb ownShare (packetsIn (Taken t)) && leb commonShare (total (map beyond (s .siteSlots)))))) crowded
     (number (answerBy (t .site) x))
 
-abbrev pub nextOn : Sheet → ℕ → Seat → Act → Sheet
+abbrev pub nextOn : Sheet → ℕ → SiteSlot → Act → Sheet
 nextOn s a Empty x = s
 nextOn s a (Taken t) x =
     record {
-      seats = set (s .seats) (a - 1) (Taken (record { site = siteBy (t .site) x; day = t .day }));
+      siteSlots = set (s .siteSlots) (a - 1) (Taken (record { site = siteBy (t .site) x; day = t .day }));
       places = nextPlaces (s .places) a (packetsIn (Taken t)) (eventOf x);
     }
 
 module _ (g : Group) (room : areaSize ≤ length (g .area)) (a : ℕ) (x : Act) where
-  module _ (t : Timed) (h : seatOf g a ≡ Taken t) where
+  module _ (t : Timed) (h : siteSlotOf g a ≡ Taken t) where
     abbrev own : List ℕ
     own = ownArea g a (packetsIn (Taken t))
 
@@ -90,15 +93,15 @@ module _ (g : Group) (room : areaSize ≤ length (g .area)) (a : ℕ) (x : Act) 
 
     plain-by : plainAnswer g (callOf a x) ≡ answerBy (t .site) x
     unfolding plainAnswer
-    plain-by = ap (λ (s : Seat). seatAnswer g a s (record { event = eventOf x; windows = [] })) h
+    plain-by = ap (λ (s : SiteSlot). siteSlotAnswer g a s (record { event = eventOf x; windows = [] })) h
         ∙ skip _ _ _ _ (le-ltb (length (g .area)) areaSize room) (plain-answer t own [] (eventOf x) (no-end x) ∙ site-answer)
 
     crowded-by : isCrowded g (callOf a x)
         ≡ (isSend (eventOf x) && (isDone (answerBy (t .site) x)
-        && (leb ownShare (packetsIn (Taken t)) && leb commonShare (total (map beyond (g .seats))))))
+        && (leb ownShare (packetsIn (Taken t)) && leb commonShare (total (map beyond (g .siteSlots))))))
     unfolding isCrowded common
     crowded-by = λ i. isSend (eventOf x)
-        && (isDone (plain-by i) && (leb ownShare (packetsIn (h i)) && leb commonShare (total (map beyond (g .seats)))))
+        && (isDone (plain-by i) && (leb ownShare (packetsIn (h i)) && leb commonShare (total (map beyond (g .siteSlots)))))
 
     answer-by : answerTo g (callOf a x) ≡ numberBy (sheetOf g) (Taken t) x
     unfolding answerTo
@@ -111,11 +114,11 @@ module _ (g : Group) (room : areaSize ≤ length (g .area)) (a : ℕ) (x : Act) 
       tests false n e = (refl, e)
 
       passed : (isSend (eventOf x) && (isDone (answerBy (t .site) x)
-          && (leb ownShare (packetsIn (Taken t)) && leb commonShare (total (map beyond (g .seats))))) ≡ false)
+          && (leb ownShare (packetsIn (Taken t)) && leb commonShare (total (map beyond (g .siteSlots))))) ≡ false)
           × (number (answerBy (t .site) x) ≡ 0)
       passed = tests _ _ z
 
-      accepts : isAccepted g (callOf a x) ≡ true
+      accepts : groupAccepts g (callOf a x) ≡ true
       accepts =
           let p = passed in
           let d : isDone (plainAnswer g (callOf a x)) ≡ true = ap isDone plain-by ∙ eq-eqb (number (answerBy (t .site) x)) 0 (p .1) in
@@ -137,17 +140,17 @@ module _ (g : Group) (room : areaSize ≤ length (g .area)) (a : ℕ) (x : Act) 
       sheet-by : sheetOf (afterGroup g (callOf a x)) ≡ nextOn (sheetOf g) a (Taken t) x
       unfolding afterGroup nextGroup
       sheet-by =
-          ap sheetOf (hit _ _ g accepts ∙ ap (λ (s : Seat). nextBy g a s (record { event = eventOf x; windows = [] })) h)
+          ap sheetOf (hit _ _ g accepts ∙ ap (λ (s : SiteSlot). nextBy g a s (record { event = eventOf x; windows = [] })) h)
           ∙ (λ i. record {
-            seats = set (g .seats) (a - 1) (Taken (site-by i));
+            siteSlots = set (g .siteSlots) (a - 1) (Taken (site-by i));
             places = nextPlaces (g .places) a (packetsIn (Taken t)) (eventOf x);
           })
 
--- the seat of a number
-abbrev pub seatIn : Sheet → ℕ → Seat
-seatIn s a = cond (isNumber a) (getD (s .seats) (a - 1) Empty) Empty
+-- the site slot of a number
+abbrev pub siteSlotIn : Sheet → ℕ → SiteSlot
+siteSlotIn s a = cond (isNumber a) (getD (s .siteSlots) (a - 1) Empty) Empty
 
-nobody : (g : Group) (a : ℕ) (x : Act) → seatOf g a ≡ Empty → answerTo g (callOf a x) ≡ 3
+nobody : (g : Group) (a : ℕ) (x : Act) → siteSlotOf g a ≡ Empty → answerTo g (callOf a x) ≡ 3
 unfolding answerTo isCrowded
 nobody g a (sends j) h =
     let e : plainAnswer g (callOf a (sends j)) ≡ NoSuchNode = empty-answer g a _ h in
@@ -156,21 +159,21 @@ nobody g a closes h = ap number (empty-answer g a _ h)
 
 -- by sheet alone: the number that a call is answered with, and the sheet then
 pub answers-by : (g : Group) → areaSize ≤ length (g .area) → (a : ℕ) (x : Act) → answerTo g (callOf a x)
-    ≡ numberBy (sheetOf g) (seatIn (sheetOf g) a) x
-answers-by g room a x = go (seatOf g a) refl
+    ≡ numberBy (sheetOf g) (siteSlotIn (sheetOf g) a) x
+answers-by g room a x = go (siteSlotOf g a) refl
   where
-    go : (s : Seat) → seatOf g a ≡ s → answerTo g (callOf a x) ≡ numberBy (sheetOf g) (seatOf g a) x
-    go Empty h = nobody g a x h ∙ ap (λ (s : Seat). numberBy (sheetOf g) s x) (sym h)
-    go (Taken t) h = answer-by g room a x t h ∙ ap (λ (s : Seat). numberBy (sheetOf g) s x) (sym h)
+    go : (s : SiteSlot) → siteSlotOf g a ≡ s → answerTo g (callOf a x) ≡ numberBy (sheetOf g) (siteSlotOf g a) x
+    go Empty h = nobody g a x h ∙ ap (λ (s : SiteSlot). numberBy (sheetOf g) s x) (sym h)
+    go (Taken t) h = answer-by g room a x t h ∙ ap (λ (s : SiteSlot). numberBy (sheetOf g) s x) (sym h)
 
-next-by : (g : Group) → areaSize ≤ length (g .area) → (a : ℕ) (x : Act) → numberBy (sheetOf g) (seatIn (sheetOf g) a) x ≡ 0
-    → sheetOf (afterGroup g (callOf a x)) ≡ nextOn (sheetOf g) a (seatIn (sheetOf g) a) x
-next-by g room a x z = go (seatOf g a) refl
+next-by : (g : Group) → areaSize ≤ length (g .area) → (a : ℕ) (x : Act) → numberBy (sheetOf g) (siteSlotIn (sheetOf g) a) x ≡ 0
+    → sheetOf (afterGroup g (callOf a x)) ≡ nextOn (sheetOf g) a (siteSlotIn (sheetOf g) a) x
+next-by g room a x z = go (siteSlotOf g a) refl
   where
-    go : (s : Seat) → seatOf g a ≡ s → sheetOf (afterGroup g (callOf a x)) ≡ nextOn (sheetOf g) a (seatOf g a) x
-    go Empty h = let e : _≡_ {A = ℕ} 3 0 = ap (λ (s : Seat). numberBy (sheetOf g) s x) (sym h) ∙ z in absurd (omega (arith, e))
-    go (Taken t) h = sheet-by g room a x t h (ap (λ (s : Seat). numberBy (sheetOf g) s x) (sym h) ∙ z)
-        ∙ ap (λ (s : Seat). nextOn (sheetOf g) a s x) (sym h)
+    go : (s : SiteSlot) → siteSlotOf g a ≡ s → sheetOf (afterGroup g (callOf a x)) ≡ nextOn (sheetOf g) a (siteSlotOf g a) x
+    go Empty h = let e : _≡_ {A = ℕ} 3 0 = ap (λ (s : SiteSlot). numberBy (sheetOf g) s x) (sym h) ∙ z in absurd (omega (arith, e))
+    go (Taken t) h = sheet-by g room a x t h (ap (λ (s : SiteSlot). numberBy (sheetOf g) s x) (sym h) ∙ z)
+        ∙ ap (λ (s : SiteSlot). nextOn (sheetOf g) a s x) (sym h)
 
 -- a list of acts, each of a number
 pub record At : Type 0 where
@@ -178,7 +181,7 @@ pub record At : Type 0 where
   pub act : Act
 
 unfoldable pub stepOn : Sheet → At → Sheet
-stepOn s x = nextOn s (x .number) (seatIn s (x .number)) (x .act)
+stepOn s x = nextOn s (x .number) (siteSlotIn s (x .number)) (x .act)
 
 unfoldable pub runOn : Sheet → List At → Sheet
 runOn s [] = s
@@ -187,7 +190,7 @@ runOn s (x ∷ xs) = runOn (stepOn s x) xs
 -- each is answered with 0
 unfoldable pub allDone : Sheet → List At → Bool
 allDone s [] = true
-allDone s (x ∷ xs) = eqb (numberBy s (seatIn s (x .number)) (x .act)) 0 && allDone (stepOn s x) xs
+allDone s (x ∷ xs) = eqb (numberBy s (siteSlotIn s (x .number)) (x .act)) 0 && allDone (stepOn s x) xs
 
 abbrev pub callAt : At → GroupCall
 callAt x = callOf (x .number) (x .act)
@@ -197,9 +200,9 @@ pub runs-by : (own : List ℕ) → areaSize ≤ length own → (g : Group) → F
 unfolding runGroup runOn allDone stepOn
 runs-by own long g F s e [] h = e
 runs-by own long g F s e (x ∷ xs) h =
-    let z : numberBy (sheetOf g) (seatIn (sheetOf g) (x .number)) (x .act) ≡ 0 =
-    ap (λ (y : Sheet). numberBy y (seatIn y (x .number)) (x .act)) e
-    ∙ eqb-true _ _ (and-left (eqb (numberBy s (seatIn s (x .number)) (x .act)) 0) _ h) in
+    let z : numberBy (sheetOf g) (siteSlotIn (sheetOf g) (x .number)) (x .act) ≡ 0 =
+    ap (λ (y : Sheet). numberBy y (siteSlotIn y (x .number)) (x .act)) e
+    ∙ eqb-true _ _ (and-left (eqb (numberBy s (siteSlotIn s (x .number)) (x .act)) 0) _ h) in
     runs-by own long (afterGroup g (callAt x)) (after-fine own long g F (callAt x)) (stepOn s x)
-    (next-by g (F .ground .room) (x .number) (x .act) z ∙ ap (λ (y : Sheet). nextOn y (x .number) (seatIn y (x .number)) (x .act)) e)
-    xs (and-right (eqb (numberBy s (seatIn s (x .number)) (x .act)) 0) _ h)
+    (next-by g (F .ground .room) (x .number) (x .act) z ∙ ap (λ (y : Sheet). nextOn y (x .number) (siteSlotIn y (x .number)) (x .act)) e)
+    xs (and-right (eqb (numberBy s (siteSlotIn s (x .number)) (x .act)) 0) _ h)

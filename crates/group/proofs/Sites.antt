@@ -125,7 +125,7 @@ module _ (t : Timed) (x : List ℕ) (ws : List Window) where
     sent-more =
         ap (λ (v : Timed). packets (v .site .sent)) (plain-after t x ws (Send j) refl)
         ∙ ap (λ (s : Site). packets (s .sent)) (hit _ _ (t .site) (ap isDone done))
-        ∙ packets-more (t .site .sent) j (omega (arith, L .counts .long, L .seat j sender))
+        ∙ packets-more (t .site .sent) j (omega (arith, L .counters .long, L .siteSlot j sender))
 
     pub sent-area : hasPart x (packets (t .site .sent)) ≡ true → areaAfter (t .site) x (Send j)
         ≡ placed x (packets (t .site .sent)) (packetOf (memberAt (t .site) j .node))

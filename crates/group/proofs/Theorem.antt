@@ -20,11 +20,12 @@ use Rattle.windows.specs.declared.Window.{Window}
 use Rattle.machine.specs.hours.Hours.{timedLoadAnswer, timedAnswer}
 use Rattle.agreement.proofs.daily.Theorem.{daily}
 use Rattle.group.specs.Places.{topPlaces, entry, siteOf}
-use Rattle.group.specs.Group.{Seat, Empty, Taken, Group, vacant, isNumber, seatOf, packetsIn, common}
-use Rattle.group.specs.Calls.{GroupCall, LoadSite, SiteCall, numberOf, plainAnswer, isCrowded, crowded, answerTo}
+use Rattle.group.specs.Group.{SiteSlot, Empty, Taken, Group, vacant, isNumber, siteSlotOf, packetsIn, common}
+use Rattle.group.specs.Calls.{GroupCall, LoadSite, SiteCall, callNumber, plainAnswer, isCrowded, crowded, answerTo}
 use Rattle.group.specs.Steps.{afterGroup, runGroup}
 use Rattle.group.specs.Fit.{Fit}
-use Rattle.group.specs.Alone.{Own, ownCalls, ownAnswers, Story, loadedStory, toldBy, story, worldOf, loadedGroup, Several, listingOf}
+use Rattle.group.specs.Alone.{Own, ownCalls, ownAnswers, Story, loadedStory, storyAfter, story, runStateOf, loadedGroup, Several}
+use Rattle.group.specs.Alone.{listingOf}
 use Rattle.group.proofs.Places.{place-found, often-none, zero-of}
 use Rattle.group.proofs.Ground.{Ground, Mirror, number-is}
 use Rattle.group.proofs.Admits.{sixteen, load-admits, finds, writes}
@@ -38,23 +39,24 @@ all-empty zero i = refl
 all-empty (suc n) zero = refl
 all-empty (suc n) (suc i) = all-empty n i
 
-pub empty-seat : (area : List ℕ) (a : ℕ) → seatOf (vacant area) a ≡ Empty
-empty-seat area a = read-same (λ (s : Seat). s) (isNumber a) (getD (replicate 8 Empty) (a - 1) Empty) Empty Empty (all-empty 8 (a - 1)) refl
+pub empty-site-slot : (area : List ℕ) (a : ℕ) → siteSlotOf (vacant area) a ≡ Empty
+empty-site-slot area a = read-same (λ (s : SiteSlot). s) (isNumber a) (getD (replicate 8 Empty) (a - 1) Empty) Empty Empty
+    (all-empty 8 (a - 1)) refl
 
 pub vacant-fine : (own area : List ℕ) → areaSize ≤ length area → Fine own (vacant area)
 unfolding total
 vacant-fine own area room =
     record {
       ground = record {
-        seats = refl;
+        siteSlots = refl;
         places = length-replicate {A = ℕ} topPlaces 0;
         room = room;
         own = λ a n. often-none (λ x. eqb (siteOf x) a) topPlaces (zero-of a (number-is a n .from))
-            ∙ ap packetsIn (sym (empty-seat area a));
+            ∙ ap packetsIn (sym (empty-site-slot area a));
         all = often-none (λ x. not (eqb x 0)) topPlaces refl;
         shared = omega arith;
       };
-      each = λ a n. inl (empty-seat area a);
+      each = λ a n. inl (empty-site-slot area a);
     }
 
 -- Lists of calls
@@ -68,22 +70,22 @@ module _ (own : List ℕ) (long : areaSize ≤ length own) where
   -- what the site alone answers to a call of its story, or 17
   loneAnswer : Story → GroupCall → Answer
   loneAnswer st (LoadSite a f t D ws) = timedLoadAnswer f t D ws
-  loneAnswer st (SiteCall a c) = timedAnswer (worldOf own st .timed) (worldOf own st .area) (c .windows) (c .event)
+  loneAnswer st (SiteCall a c) = timedAnswer (runStateOf own st .timed) (runStateOf own st .area) (c .windows) (c .event)
 
   loneNumber : Story → Own → ℕ
   loneNumber st o = cond (o .crowded) crowded (number (loneAnswer st (o .call)))
 
-  lone : Story → List Own → List ℕ
-  lone st [] = []
-  lone st (o ∷ os) = loneNumber st o ∷ lone (toldBy st (o .crowded) (o .call)) os
+  oneSite : Story → List Own → List ℕ
+  oneSite st [] = []
+  oneSite st (o ∷ os) = loneNumber st o ∷ oneSite (storyAfter st (o .crowded) (o .call)) os
 
-  answers-as : (g : Group) → Ground g → (c : GroupCall) (st : Story) → Mirror g (numberOf c) (worldOf own st) → plainAnswer g c
+  answers-as : (g : Group) → Ground g → (c : GroupCall) (st : Story) → Mirror g (callNumber c) (runStateOf own st) → plainAnswer g c
       ≡ loneAnswer st c
   unfolding plainAnswer loneAnswer
   answers-as g G (LoadSite a f t D ws) st M = hit _ _ _ (M .number)
-  answers-as g G (SiteCall a c) st M = same-answer g G a (worldOf own st) M c
+  answers-as g G (SiteCall a c) st M = same-answer g G a (runStateOf own st) M c
 
-  answer-as : (g : Group) → Ground g → (c : GroupCall) (st : Story) → Mirror g (numberOf c) (worldOf own st) → answerTo g c
+  answer-as : (g : Group) → Ground g → (c : GroupCall) (st : Story) → Mirror g (callNumber c) (runStateOf own st) → answerTo g c
       ≡ loneNumber st (record { call = c; crowded = isCrowded g c })
   unfolding answerTo loneNumber
   answer-as g G c st M = ap (λ (r : Answer). cond (isCrowded g c) crowded (number r)) (answers-as g G c st M)
@@ -91,7 +93,7 @@ module _ (own : List ℕ) (long : areaSize ≤ length own) where
   -- the site and its answers go by its story
   record Follows (a : ℕ) (g : Group) (st : Story) (cs : List GroupCall) : Type 0 where
     backed : Backed own (runGroup g cs) a (story st (ownCalls a g cs))
-    answers : ownAnswers a g cs ≡ lone st (ownCalls a g cs)
+    answers : ownAnswers a g cs ≡ oneSite st (ownCalls a g cs)
 
   module _ (a : ℕ) (g : Group) (F : Fine own g) (st : Story) (B : Backed own g a st) (c : GroupCall) (cs : List GroupCall) where
     abbrev next : Group
@@ -104,41 +106,42 @@ module _ (own : List ℕ) (long : areaSize ≤ length own) where
     rest = ownCalls a next cs
 
     -- a call of its own
-    backed-own : numberOf c ≡ a → Backed own next a (toldBy st (isCrowded g c) c)
-    backed-own e = subst (λ (x : ℕ). Backed own next x (toldBy st (isCrowded g c) c)) e
+    backed-own : callNumber c ≡ a → Backed own next a (storyAfter st (isCrowded g c) c)
+    backed-own e = subst (λ (x : ℕ). Backed own next x (storyAfter st (isCrowded g c) c)) e
         (tells own long g F c st (subst (λ (x : ℕ). Backed own g x st) (sym e) B))
 
-    own-first : numberOf c ≡ a → Follows a next (toldBy st (isCrowded g c) c) cs → Follows a g st (c ∷ cs)
-    unfolding runGroup ownCalls ownAnswers story lone
+    own-first : callNumber c ≡ a → Follows a next (storyAfter st (isCrowded g c) c) cs → Follows a g st (c ∷ cs)
+    unfolding runGroup ownCalls ownAnswers story oneSite
     own-first e r =
-        let t = eq-eqb (numberOf c) a e in
+        let t = eq-eqb (callNumber c) a e in
         let q : ownCalls a g (c ∷ cs) ≡ o ∷ rest = ap (λ (l : List Own). l ++ rest) (hit _ _ _ t) in
         let n : answerTo g c ≡ loneNumber st o =
-        answer-as g (F .ground) c st (subst (λ (x : ℕ). Mirror g x (worldOf own st)) (sym e) (B .mirror)) in
+        answer-as g (F .ground) c st (subst (λ (x : ℕ). Mirror g x (runStateOf own st)) (sym e) (B .mirror)) in
         record {
           backed = subst (λ (l : List Own). Backed own (runGroup next cs) a (story st l)) (sym q) (r .backed);
-          answers = ap (λ (l : List ℕ). l ++ ownAnswers a next cs) (hit _ _ _ t) ∙ (λ i. n i ∷ r .answers i) ∙ ap (lone st) (sym q);
+          answers = ap (λ (l : List ℕ). l ++ ownAnswers a next cs) (hit _ _ _ t) ∙ (λ i. n i ∷ r .answers i) ∙ ap (oneSite st) (sym q);
         }
 
     -- a call of another number
-    other-first : numberOf c ≢ a → Follows a next st cs → Follows a g st (c ∷ cs)
+    other-first : callNumber c ≢ a → Follows a next st cs → Follows a g st (c ∷ cs)
     unfolding runGroup ownCalls ownAnswers
     other-first e r =
-        let t = ne-eqb (numberOf c) a e in
-        let q : ownCalls a g (c ∷ cs) ≡ rest = ap (λ (l : List Own). l ++ rest) (skip (eqb (numberOf c) a) (o ∷ []) [] [] t refl) in
+        let t = ne-eqb (callNumber c) a e in
+        let q : ownCalls a g (c ∷ cs) ≡ rest = ap (λ (l : List Own). l ++ rest) (skip (eqb (callNumber c) a) (o ∷ []) [] [] t refl) in
         record {
           backed = subst (λ (l : List Own). Backed own (runGroup next cs) a (story st l)) (sym q) (r .backed);
-          answers = ap (λ (l : List ℕ). l ++ ownAnswers a next cs) (skip (eqb (numberOf c) a) (answerTo g c ∷ []) [] [] t refl) ∙ r .answers
-              ∙ ap (lone st) (sym q);
+          answers = ap (λ (l : List ℕ). l ++ ownAnswers a next cs)
+              (skip (eqb (callNumber c) a) (answerTo g c ∷ []) [] [] t refl) ∙ r .answers
+              ∙ ap (oneSite st) (sym q);
         }
 
   follows : (a : ℕ) (g : Group) → Fine own g → (st : Story) → Backed own g a st → (cs : List GroupCall) → Follows a g st cs
-  unfolding runGroup ownCalls ownAnswers story lone
+  unfolding runGroup ownCalls ownAnswers story oneSite
   follows a g F st B [] = record { backed = B; answers = refl }
   follows a g F st B (c ∷ cs) =
-      same-or-not (numberOf c) a
+      same-or-not (callNumber c) a
       (λ e. own-first a g F st B c cs e
-      (follows a (afterGroup g c) (after-fine own long g F c) (toldBy st (isCrowded g c) c) (backed-own a g F st B c cs e) cs))
+      (follows a (afterGroup g c) (after-fine own long g F c) (storyAfter st (isCrowded g c) c) (backed-own a g F st B c cs e) cs))
       (λ e. other-first a g F st B c cs e
       (follows a (afterGroup g c) (after-fine own long g F c) st (aside own long g F c a st (λ z. e (sym z)) B) cs))
 
@@ -179,11 +182,11 @@ fit-of : (own : List ℕ) (g : Group) → Fine own g → Fit g
 unfolding common
 fit-of own g F =
     record {
-      seats = F .ground .seats;
+      siteSlots = F .ground .siteSlots;
       places = F .ground .places;
       lies = λ a p n l. ⊎-elim
-          (λ e. let z : packetsIn (seatOf g a) ≡ 0 = ap packetsIn e in absurd (omega arith))
-          (λ s. let M = s .backed .mirror in let z = ap packetsIn (M .seat) in let k = M .low p (omega arith)
+          (λ e. let z : packetsIn (siteSlotOf g a) ≡ 0 = ap packetsIn e in absurd (omega arith))
+          (λ s. let M = s .backed .mirror in let z = ap packetsIn (M .siteSlot) in let k = M .low p (omega arith)
           in place-found (entry a (p + 1)) (g .places) (omega (arith, F .ground .places)))
           (F .each a n);
       own = F .ground .own;
@@ -200,12 +203,12 @@ several =
       fit = λ area room cs. fit-of area _ (run-fine area room (vacant area) (vacant-fine area area room) cs);
       alone = λ area own room long before cs a f t D ws h.
           let r = from-load own long area room before a f t D ws (load-done _ a f t D ws h) cs .backed in
-          record { loads = r .loads; site = r .mirror .seat; demand3 = λ u. daily .demand3 _ _ _ _ (r .loads) u own _ };
+          record { loads = r .loads; site = r .mirror .siteSlot; demand3 = λ u. daily .demand3 _ _ _ _ (r .loads) u own _ };
       apart = λ x y rx ry xs ys cs ds a f t D ws h e.
           let d = load-done (runGroup (vacant x) xs) a f t D ws h in
           let r = from-load x rx x rx xs a f t D ws d cs in
           let s = from-load x rx y ry ys a f t D ws (load-again (runGroup (vacant x) xs) (runGroup (vacant y) ys) a f t D ws d) ds in
-          let q = r .backed .mirror .seat ∙ ap (λ (os : List Own). Taken (worldOf x (story (loadedStory f t D ws) os) .timed)) e
-          ∙ sym (s .backed .mirror .seat) in
-          (r .answers ∙ ap (lone x rx (loadedStory f t D ws)) e ∙ sym (s .answers), q, ap listingOf q);
+          let q = r .backed .mirror .siteSlot ∙ ap (λ (os : List Own). Taken (runStateOf x (story (loadedStory f t D ws) os) .timed)) e
+          ∙ sym (s .backed .mirror .siteSlot) in
+          (r .answers ∙ ap (oneSite x rx (loadedStory f t D ws)) e ∙ sym (s .answers), q, ap listingOf q);
     }

@@ -19,12 +19,12 @@ use Rattle.site.specs.Steps.{sentSite}
 use Rattle.windows.specs.Windows.{listOk}
 use Rattle.machine.specs.hours.Hours.{givenTable, timedLoadAnswer, loadedTimed}
 use Rattle.group.specs.Places.{place, freed}
-use Rattle.group.specs.Group.{Empty, Group, vacant, seatOf, packetsIn, ownShare}
+use Rattle.group.specs.Group.{Empty, Group, vacant, siteSlotOf, packetsIn, ownShare}
 use Rattle.group.specs.Calls.{GroupCall, LoadSite, plainAnswer, isCrowded, answerTo}
 use Rattle.group.specs.Steps.{nextGroup, afterGroup, runGroup}
 use Rattle.group.specs.Alone.{ownCalls, loadedGroup}
 use Rattle.group.proofs.Theorem.{several}
-use Rattle.group.proofs.Sheets.{sends, callOf, Sheet, sheetOf, seatIn, At, stepOn, runOn, allDone}
+use Rattle.group.proofs.Sheets.{sends, callOf, Sheet, sheetOf, siteSlotIn, At, stepOn, runOn, allDone}
 use Rattle.group.proofs.Example.{config, table, atLoad, loaded, by}
 
 abbrev load : GroupCall
@@ -44,18 +44,19 @@ secondCalls = callOf 2 (sends 1) ∷ []
 abbrev sent : List At
 sent = record { number = 1; act = sends 1 } ∷ []
 
-computed : (allDone atLoad sent ≡ true) × (packetsIn (seatIn (runOn atLoad sent) 2) ≡ 0) × (packetsIn (seatIn (runOn atLoad sent) 1) ≡ 1)
+computed : (allDone atLoad sent ≡ true) × (packetsIn (siteSlotIn (runOn atLoad sent) 2) ≡ 0)
+    × (packetsIn (siteSlotIn (runOn atLoad sent) 1) ≡ 1)
 unfolding atLoad runOn allDone stepOn total siteSend sendAnswer sentSite begun loadedTimed loadedSite loadedMember config table tab
     timedLoadAnswer loadAnswer tableOk rowOk startAnswer configOk flagsOk allBelow listOk
     givenTable place freed
 computed = (refl, refl, refl)
 
 -- the second run's group: site 2 alone
-lone : (area : List ℕ) → (packetsIn (seatOf (loadedGroup area [] load) 2) ≡ 0) × (seatOf (loadedGroup area [] load) 1 ≡ Empty)
+oneSite : (area : List ℕ) → (packetsIn (siteSlotOf (loadedGroup area [] load) 2) ≡ 0) × (siteSlotOf (loadedGroup area [] load) 1 ≡ Empty)
     × (answerTo (runGroup (vacant area) []) load ≡ 0)
 unfolding runGroup afterGroup nextGroup plainAnswer isCrowded answerTo timedLoadAnswer loadAnswer tableOk rowOk startAnswer configOk flagsOk
     allBelow listOk config table tab freed loadedTimed loadedSite total
-lone area = (refl, refl, refl)
+oneSite area = (refl, refl, refl)
 
 accepted : (area : List ℕ) → answerTo (runGroup (vacant area) first) load ≡ 0
 unfolding runGroup afterGroup nextGroup plainAnswer isCrowded answerTo timedLoadAnswer loadAnswer tableOk rowOk startAnswer configOk flagsOk
@@ -71,21 +72,22 @@ module _ (x y : List ℕ) (room : areaSize ≤ length x) where
   unfolding runGroup
   sheet-is = by x room sent (computed .0)
 
-  empty-two : packetsIn (seatOf g 2) < ownShare
-  empty-two = let e : packetsIn (seatOf g 2) ≡ 0 = ap (λ (s : Sheet). packetsIn (seatIn s 2)) sheet-is ∙ computed .1 in omega (arith, e)
+  empty-two : packetsIn (siteSlotOf g 2) < ownShare
+  empty-two = let e : packetsIn (siteSlotOf g 2) ≡ 0 = ap (λ (s : Sheet). packetsIn (siteSlotIn s 2)) sheet-is
+      ∙ computed .1 in omega (arith, e)
 
-  empty-lone : packetsIn (seatOf (loadedGroup y [] load) 2) < ownShare
-  empty-lone = let e = lone y .0 in omega (arith, e)
+  empty-oneSite : packetsIn (siteSlotOf (loadedGroup y [] load) 2) < ownShare
+  empty-oneSite = let e = oneSite y .0 in omega (arith, e)
 
   -- the calls of site 2, none of them refused as 17, are the same; and the runs differ
   same-calls : ownCalls 2 (loadedGroup x first load) firstCalls ≡ ownCalls 2 (loadedGroup y [] load) secondCalls
   unfolding ownCalls
   same-calls =
       let p = several .sixteen g 2 _ empty-two in
-      let q = several .sixteen (loadedGroup y [] load) 2 _ empty-lone in
+      let q = several .sixteen (loadedGroup y [] load) 2 _ empty-oneSite in
       ap (λ (b : Bool). record { call = callOf 2 (sends 1); crowded = b } ∷ []) (p ∙ sym q)
 
   pub two-runs : (answerTo (runGroup (vacant x) first) load ≡ 0)
       × (ownCalls 2 (loadedGroup x first load) firstCalls ≡ ownCalls 2 (loadedGroup y [] load) secondCalls)
-      × (packetsIn (seatOf g 1) ≡ 1) × (seatOf (loadedGroup y [] load) 1 ≡ Empty)
-  two-runs = (accepted x, same-calls, ap (λ (s : Sheet). packetsIn (seatIn s 1)) sheet-is ∙ computed .2, lone y .1)
+      × (packetsIn (siteSlotOf g 1) ≡ 1) × (siteSlotOf (loadedGroup y [] load) 1 ≡ Empty)
+  two-runs = (accepted x, same-calls, ap (λ (s : Sheet). packetsIn (siteSlotIn s 1)) sheet-is ∙ computed .2, oneSite y .1)

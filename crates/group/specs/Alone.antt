@@ -14,11 +14,11 @@ use Rattle.node.specs.declared.Config.{Config}
 use Rattle.site.specs.declared.Table.{Table}
 use Rattle.windows.specs.declared.Window.{Window}
 use Rattle.machine.specs.hours.Hours.{timedLoadAnswer}
-use Rattle.machine.specs.hours.Calls.{Call, TimedWorld, runCalls}
+use Rattle.machine.specs.hours.Calls.{Call, TimedState, runCalls}
 use Rattle.agreement.specs.daily.Daily.{beginBy, DailyDemand3}
 use Rattle.desk.specs.listing.Rows.{rowsText}
-use Rattle.group.specs.Group.{Seat, Empty, Taken, Group, vacant, seatOf, packetsIn, ownShare}
-use Rattle.group.specs.Calls.{GroupCall, LoadSite, SiteCall, numberOf, isCrowded, answerTo}
+use Rattle.group.specs.Group.{SiteSlot, Empty, Taken, Group, vacant, siteSlotOf, packetsIn, ownShare}
+use Rattle.group.specs.Calls.{GroupCall, LoadSite, SiteCall, callNumber, isCrowded, answerTo}
 use Rattle.group.specs.Steps.{afterGroup, runGroup}
 use Rattle.group.specs.Fit.{Fit}
 
@@ -30,12 +30,12 @@ pub record Own : Type 0 where
 -- the calls of number a in a list
 unfoldable pub ownCalls : ℕ → Group → List GroupCall → List Own
 ownCalls a g [] = []
-ownCalls a g (c ∷ cs) = cond (eqb (numberOf c) a) (record { call = c; crowded = isCrowded g c } ∷ []) [] ++ ownCalls a (afterGroup g c) cs
+ownCalls a g (c ∷ cs) = cond (eqb (callNumber c) a) (record { call = c; crowded = isCrowded g c } ∷ []) [] ++ ownCalls a (afterGroup g c) cs
 
 -- the answers to them
 unfoldable pub ownAnswers : ℕ → Group → List GroupCall → List ℕ
 ownAnswers a g [] = []
-ownAnswers a g (c ∷ cs) = cond (eqb (numberOf c) a) (answerTo g c ∷ []) [] ++ ownAnswers a (afterGroup g c) cs
+ownAnswers a g (c ∷ cs) = cond (eqb (callNumber c) a) (answerTo g c ∷ []) [] ++ ownAnswers a (afterGroup g c) cs
 
 -- what a site was loaded with, and its calls since then, those refused as 17 left out
 pub record Story : Type 0 where
@@ -50,27 +50,27 @@ abbrev pub loadedStory : Config → Table → ℕ → List Window → Story
 loadedStory f t D ws = record { config = f; table = t; day = D; windows = ws; calls = [] }
 
 -- one call more; an accepted load begins anew, a refused one changes nothing
-abbrev pub toldBy : Story → Bool → GroupCall → Story
-toldBy st crowded (LoadSite a f t D ws) = cond (isDone (timedLoadAnswer f t D ws)) (loadedStory f t D ws) st
-toldBy st crowded (SiteCall a c) =
+abbrev pub storyAfter : Story → Bool → GroupCall → Story
+storyAfter st crowded (LoadSite a f t D ws) = cond (isDone (timedLoadAnswer f t D ws)) (loadedStory f t D ws) st
+storyAfter st crowded (SiteCall a c) =
     cond crowded st (record { config = st .config; table = st .table; day = st .day; windows = st .windows; calls = st .calls ++ (c ∷ []) })
 
 unfoldable pub story : Story → List Own → Story
 story st [] = st
-story st (o ∷ os) = story (toldBy st (o .crowded) (o .call)) os
+story st (o ∷ os) = story (storyAfter st (o .crowded) (o .call)) os
 
 -- where these calls lead the site with an area of its own
-abbrev pub worldOf : List ℕ → Story → TimedWorld
-worldOf own st = runCalls (beginBy (st .config) (st .table) (st .day) (st .windows) own) (st .calls)
+abbrev pub runStateOf : List ℕ → Story → TimedState
+runStateOf own st = runCalls (beginBy (st .config) (st .table) (st .day) (st .windows) own) (st .calls)
 
 -- the site of number a is the one that its own calls lead to, and demand 3 holds of them where it may not split
 pub record AsAlone (a : ℕ) (g : Group) (own : List ℕ) (st : Story) : Type 0 where
   pub loads : timedLoadAnswer (st .config) (st .table) (st .day) (st .windows) ≡ Done
-  pub site : seatOf g a ≡ Taken (worldOf own st .timed)
+  pub site : siteSlotOf g a ≡ Taken (runStateOf own st .timed)
   pub demand3 : st .config .split ≡ 0 → DailyDemand3 (st .config) (st .table) (st .day) (st .windows) own (st .calls)
 
 -- the rows of the listing (specification, 8) of what stands at a number
-abbrev pub listingOf : Seat → List ℕ
+abbrev pub listingOf : SiteSlot → List ℕ
 listingOf Empty = []
 listingOf (Taken t) = rowsText (t .site .config .nodes) 0 (t .site .members) (t .site .config .slots)
 
@@ -81,7 +81,7 @@ loadedGroup area before load = afterGroup (runGroup (vacant area) before) load
 -- the theorem's statement: proved in proofs/Theorem.antt
 pub record Several : Type 0 where
   -- in any group: a site that has fewer than 16 packets is never refused as 17
-  pub sixteen : (g : Group) (a : ℕ) (c : Call) → packetsIn (seatOf g a) < ownShare → isCrowded g (SiteCall a c) ≡ false
+  pub sixteen : (g : Group) (a : ℕ) (c : Call) → packetsIn (siteSlotOf g a) < ownShare → isCrowded g (SiteCall a c) ≡ false
   pub fit : (area : List ℕ) → areaSize ≤ length area → (cs : List GroupCall) → Fit (runGroup (vacant area) cs)
   -- from an accepted load on, with any further calls, and for any area that the site alone might have
   pub alone : (area own : List ℕ) → areaSize ≤ length area → areaSize ≤ length own
@@ -96,6 +96,7 @@ pub record Several : Type 0 where
       → answerTo (runGroup (vacant x) xs) (LoadSite a f t D ws) ≡ 0
       → ownCalls a (loadedGroup x xs (LoadSite a f t D ws)) cs ≡ ownCalls a (loadedGroup y ys (LoadSite a f t D ws)) ds
       → (ownAnswers a (loadedGroup x xs (LoadSite a f t D ws)) cs ≡ ownAnswers a (loadedGroup y ys (LoadSite a f t D ws)) ds)
-      × (seatOf (runGroup (loadedGroup x xs (LoadSite a f t D ws)) cs) a ≡ seatOf (runGroup (loadedGroup y ys (LoadSite a f t D ws)) ds) a)
-      × (listingOf (seatOf (runGroup (loadedGroup x xs (LoadSite a f t D ws)) cs) a)
-      ≡ listingOf (seatOf (runGroup (loadedGroup y ys (LoadSite a f t D ws)) ds) a))
+      × (siteSlotOf (runGroup (loadedGroup x xs (LoadSite a f t D ws)) cs) a
+      ≡ siteSlotOf (runGroup (loadedGroup y ys (LoadSite a f t D ws)) ds) a)
+      × (listingOf (siteSlotOf (runGroup (loadedGroup x xs (LoadSite a f t D ws)) cs) a)
+      ≡ listingOf (siteSlotOf (runGroup (loadedGroup y ys (LoadSite a f t D ws)) ds) a))

@@ -18,7 +18,7 @@ use Rattle.site.specs.declared.Event.the-variants.{Send, Hear, Close, Take, End
 use Rattle.windows.specs.declared.Window.{Window}
 use Rattle.machine.specs.hours.Hours.{timedLoadAnswer, timedAnswer}
 use Rattle.machine.specs.hours.Calls.{Call}
-use Rattle.group.specs.Group.{Seat, Empty, Taken, Group, isNumber, seatOf, packetsIn, ownShare, commonShare, common, ownArea}
+use Rattle.group.specs.Group.{SiteSlot, Empty, Taken, Group, isNumber, siteSlotOf, packetsIn, ownShare, commonShare, common, ownArea}
 
 -- a load of a number, with settings, table, day and windows; and an event of a number, with windows
 pub data GroupCall : Type 0 where
@@ -26,9 +26,9 @@ pub data GroupCall : Type 0 where
   SiteCall : ℕ → Call → GroupCall
 
 -- the number that a call is of
-abbrev pub numberOf : GroupCall → ℕ
-numberOf (LoadSite a f t D ws) = a
-numberOf (SiteCall a c) = a
+abbrev pub callNumber : GroupCall → ℕ
+callNumber (LoadSite a f t D ws) = a
+callNumber (SiteCall a c) = a
 
 abbrev pub isSend : Event → Bool
 isSend (Send j) = true
@@ -40,21 +40,22 @@ isSend (Want j d) = false
 isSend (Crash j) = false
 isSend (Restart j flags) = false
 
--- what the seat of number a answers to an event: 3 where it is empty, 15 for an area under 11,520 bytes, then as the site with an area of
+-- what the site slot of number a answers to an event: 3 where it is empty, 15 for an area under 11,520 bytes, then as
+-- the site with an area of
 -- its own
-abbrev pub seatAnswer : Group → ℕ → Seat → Call → Answer
-seatAnswer g a Empty c = NoSuchNode
-seatAnswer g a (Taken t) c = cond (ltb (length (g .area)) areaSize) NoRoom
+abbrev pub siteSlotAnswer : Group → ℕ → SiteSlot → Call → Answer
+siteSlotAnswer g a Empty c = NoSuchNode
+siteSlotAnswer g a (Taken t) c = cond (ltb (length (g .area)) areaSize) NoRoom
     (timedAnswer t (ownArea g a (packetsIn (Taken t))) (c .windows) (c .event))
 
 -- the answer but for 17
 unfoldable pub plainAnswer : Group → GroupCall → Answer
 plainAnswer g (LoadSite a f t D ws) = cond (isNumber a) (timedLoadAnswer f t D ws) NoSuchNode
-plainAnswer g (SiteCall a c) = seatAnswer g a (seatOf g a) c
+plainAnswer g (SiteCall a c) = siteSlotAnswer g a (siteSlotOf g a) c
 
 -- the site has its own share, and the common places are taken
 abbrev pub isShort : Group → ℕ → Bool
-isShort g a = leb ownShare (packetsIn (seatOf g a)) && leb commonShare (common g)
+isShort g a = leb ownShare (packetsIn (siteSlotOf g a)) && leb commonShare (common g)
 
 -- a send that is refused as 17: nothing else is to be said against it
 unfoldable pub isCrowded : Group → GroupCall → Bool
@@ -68,5 +69,5 @@ crowded = number Crowded
 unfoldable pub answerTo : Group → GroupCall → ℕ
 answerTo g c = cond (isCrowded g c) crowded (number (plainAnswer g c))
 
-abbrev pub isAccepted : Group → GroupCall → Bool
-isAccepted g c = isDone (plainAnswer g c) && not (isCrowded g c)
+abbrev pub groupAccepts : Group → GroupCall → Bool
+groupAccepts g c = isDone (plainAnswer g c) && not (isCrowded g c)

@@ -14,30 +14,30 @@ use Rattle.machine.specs.hours.Hours.{Timed}
 use Rattle.group.specs.Places.{topPlaces, entry, place}
 
 -- what stands at a number: no site, or a site with its day
-pub data Seat : Type 0 where
-  Empty : Seat
-  Taken : Timed → Seat
+pub data SiteSlot : Type 0 where
+  Empty : SiteSlot
+  Taken : Timed → SiteSlot
 
--- the eight seats, that of number a at index a - 1; the 256 entries of the places; and the lent area
+-- the eight site slots, that of number a at index a - 1; the 256 entries of the places; and the lent area
 pub record Group : Type 0 where
-  pub seats : List Seat
+  pub siteSlots : List SiteSlot
   pub places : List ℕ
   pub area : List ℕ
 
 -- nothing is loaded and every place is free, whatever the area holds
 abbrev pub vacant : List ℕ → Group
-vacant area = record { seats = replicate 8 Empty; places = replicate topPlaces 0; area = area }
+vacant area = record { siteSlots = replicate 8 Empty; places = replicate topPlaces 0; area = area }
 
 -- the numbers of a group are 1 to 8
 abbrev pub isNumber : ℕ → Bool
 isNumber a = leb 1 a && leb a 8
 
--- the seat of a number; at any other number nothing is loaded
-abbrev pub seatOf : Group → ℕ → Seat
-seatOf g a = cond (isNumber a) (getD (g .seats) (a - 1) Empty) Empty
+-- the site slot of a number; at any other number nothing is loaded
+abbrev pub siteSlotOf : Group → ℕ → SiteSlot
+siteSlotOf g a = cond (isNumber a) (getD (g .siteSlots) (a - 1) Empty) Empty
 
 -- the packets of a site in this phase, by its own counts
-abbrev pub packetsIn : Seat → ℕ
+abbrev pub packetsIn : SiteSlot → ℕ
 packetsIn Empty = 0
 packetsIn (Taken t) = packets (t .site .sent)
 
@@ -49,11 +49,11 @@ abbrev pub commonShare : ℕ
 commonShare = 128
 
 -- what a site has beyond its own share, and what all have: the common places that are taken
-abbrev pub beyond : Seat → ℕ
+abbrev pub beyond : SiteSlot → ℕ
 beyond s = packetsIn s - ownShare
 
 unfoldable pub common : Group → ℕ
-common g = total (map beyond (g .seats))
+common g = total (map beyond (g .siteSlots))
 
 -- the place of packet p of site a
 abbrev pub packetPlace : Group → ℕ → ℕ → ℕ

@@ -24,8 +24,8 @@ place x [] = 0
 place x (y ∷ t) = cond (eqb y x) 0 (suc (place x t))
 
 -- an entry in the lowest free place, and no other changed
-abbrev pub filled : ℕ → List ℕ → List ℕ
-filled x t = set t (place 0 t) x
+abbrev pub placeFilled : ℕ → List ℕ → List ℕ
+placeFilled x t = set t (place 0 t) x
 
 -- the places of site a are free, and no other is changed
 abbrev pub freedEntry : ℕ → ℕ → ℕ

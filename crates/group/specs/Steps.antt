@@ -13,13 +13,13 @@ use Rattle.site.specs.declared.Event.{Event}
 use Rattle.site.specs.declared.Event.the-variants.{Send, Hear, Close, Take, End, Want, Crash, Restart}
 use Rattle.machine.specs.hours.Hours.{Timed, loadedTimed, timedAfter}
 use Rattle.machine.specs.hours.Calls.{Call}
-use Rattle.group.specs.Places.{entry, place, filled, freed}
-use Rattle.group.specs.Group.{Seat, Empty, Taken, Group, seatOf, packetsIn, ownArea}
-use Rattle.group.specs.Calls.{GroupCall, LoadSite, SiteCall, isAccepted}
+use Rattle.group.specs.Places.{entry, place, placeFilled, freed}
+use Rattle.group.specs.Group.{SiteSlot, Empty, Taken, Group, siteSlotOf, packetsIn, ownArea}
+use Rattle.group.specs.Calls.{GroupCall, LoadSite, SiteCall, groupAccepts}
 
 -- the places after an accepted event of site a, which has n packets
 abbrev pub nextPlaces : List ℕ → ℕ → ℕ → Event → List ℕ
-nextPlaces places a n (Send j) = filled (entry a (n + 1)) places
+nextPlaces places a n (Send j) = placeFilled (entry a (n + 1)) places
 nextPlaces places a n (Hear j p) = places
 nextPlaces places a n Close = freed a places
 nextPlaces places a n (Take j i) = places
@@ -39,12 +39,12 @@ nextBytes g t (Want j d) = g .area
 nextBytes g t (Crash j) = g .area
 nextBytes g t (Restart j flags) = g .area
 
--- the group after an accepted event of the seat of number a; the site is what it would be with an area of its own
-abbrev pub nextBy : Group → ℕ → Seat → Call → Group
+-- the group after an accepted event of the site slot of number a; the site is what it would be with an area of its own
+abbrev pub nextBy : Group → ℕ → SiteSlot → Call → Group
 nextBy g a Empty c = g
 nextBy g a (Taken t) c =
     record {
-      seats = set (g .seats) (a - 1) (Taken (timedAfter t (ownArea g a (packetsIn (Taken t))) (c .windows) (c .event)));
+      siteSlots = set (g .siteSlots) (a - 1) (Taken (timedAfter t (ownArea g a (packetsIn (Taken t))) (c .windows) (c .event)));
       places = nextPlaces (g .places) a (packetsIn (Taken t)) (c .event);
       area = nextBytes g t (c .event);
     }
@@ -52,12 +52,12 @@ nextBy g a (Taken t) c =
 -- the group after an accepted call
 unfoldable pub nextGroup : Group → GroupCall → Group
 nextGroup g (LoadSite a f t D ws) =
-    record { seats = set (g .seats) (a - 1) (Taken (loadedTimed f t D ws)); places = freed a (g .places); area = g .area }
-nextGroup g (SiteCall a c) = nextBy g a (seatOf g a) c
+    record { siteSlots = set (g .siteSlots) (a - 1) (Taken (loadedTimed f t D ws)); places = freed a (g .places); area = g .area }
+nextGroup g (SiteCall a c) = nextBy g a (siteSlotOf g a) c
 
 -- a refused call changes nothing
 unfoldable pub afterGroup : Group → GroupCall → Group
-afterGroup g c = cond (isAccepted g c) (nextGroup g c) g
+afterGroup g c = cond (groupAccepts g c) (nextGroup g c) g
 
 -- after a list of calls: each finds group and area as the call before it left them
 unfoldable pub runGroup : Group → List GroupCall → Group

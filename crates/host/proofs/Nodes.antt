@@ -45,10 +45,10 @@ use Rattle.wire.proofs.Laws as wire
 use Rattle.wire.specs.Phases.{phaseByte}
 use Rattle.area.specs.Area.{smallOf, encoded, decoded, valid}
 use Rattle.host.specs.Report.{reportSize, report}
-use Rattle.host.specs.Calls.{andThen, isNodeArea, roomOf, unlessRefused, output, sentAnswer, sendingOf, outSend, heardAnswer}
+use Rattle.host.specs.Calls.{andThen, isNodeArea, roomAnswer, unlessRefused, output, sentAnswer, sendingOf, outSend, heardAnswer}
 use Rattle.host.specs.Calls.{hearingOf, afterHear, closeRoom, groundSize, closedAnswer, closingOf, afterClose, closeBytes, outClose}
 use Rattle.host.specs.Calls.{takenAnswer, takingOf, afterTake, endingOf, afterEnd, wantingOf, afterWant, readingOf, outRead}
-use Rattle.host.specs.Calls.{slotsSize, ownSlots, ownAnswer, slotsAnswer, outSlots}
+use Rattle.host.specs.Calls.{slotsSize, ownSlots, outputAnswer, slotsAnswer, outSlots}
 use Rattle.area.proofs.Valid.{range-of}
 use Rattle.host.proofs.Answers.{a-node}
 use Rattle.area.proofs.Canon.{lengths, round-trip, accepted}
@@ -68,7 +68,7 @@ then-done x = go (isDone x) refl
 pub talks : (n : Node) → sendAnswer n ≡ Done → negotiates (n .phase) ≡ true
 talks n d = test-met (negotiates (n .phase)) Done WrongPhase refl (sym (send-phase n) ∙ d) .0
 
-pub roomy : (n : ℕ) (out : List ℕ) → n ≤ length out → roomOf n out ≡ Done
+pub roomy : (n : ℕ) (out : List ℕ) → n ≤ length out → roomAnswer n out ≡ Done
 roomy n out h = hit (leb n (length out)) Done NoRoom (le-leb n (length out) h)
 
 -- bytes that fill an output are what it holds then
@@ -137,7 +137,7 @@ module _ (n : Node) (long : Lengths n) (range : inRange n ≡ true) where
   unfolding outSend sendingOf
   send-writes out h d =
       its-bytes (λ m. sentAnswer m out) (λ m. packetBytes (packetOf m)) out
-      ∙ ap (λ (y : Answer). output (andThen y (roomOf packetSize out)) (packetBytes (packetOf n)) out) d
+      ∙ ap (λ (y : Answer). output (andThen y (roomAnswer packetSize out)) (packetBytes (packetOf n)) out) d
       ∙ ap (λ (y : Answer). output y (packetBytes (packetOf n)) out) (roomy packetSize out (omega arith))
       ∙ filled (packetBytes (packetOf n)) out (wire.length-packet (packetOf n) (ranged.packet-long n long) ∙ sym h)
 
@@ -162,7 +162,7 @@ module _ (n : Node) (long : Lengths n) (range : inRange n ≡ true) where
       its-own (λ m. closedAnswer m out told)
       ∙ ap (λ (y : Answer). andThen (closeAnswer n) (andThen y (closeRoom (closedNode n) out))) (roomy groundSize told k)
       ∙ ap (andThen (closeAnswer n))
-      (read-same (λ (y : Answer). y) (sending (closedNode n .phase)) (roomOf scheduleSize out) Done Done
+      (read-same (λ (y : Answer). y) (sending (closedNode n .phase)) (roomAnswer scheduleSize out) Done Done
       (roomy scheduleSize out h) refl)
       ∙ then-done (closeAnswer n)
 
@@ -206,14 +206,14 @@ module _ (n : Node) (long : Lengths n) (range : inRange n ≡ true) where
   pub read-writes : (out : List ℕ) → length out ≡ reportSize → outRead (encoded n) out ≡ report n
   unfolding outRead readingOf
   read-writes out h =
-      its-bytes (λ m. roomOf reportSize out) report out
+      its-bytes (λ m. roomAnswer reportSize out) report out
       ∙ ap (λ (y : Answer). output y (report n) out) (roomy reportSize out (omega arith))
       ∙ filled (report n) out (length-report n long ∙ sym h)
 
   -- slots
   pub slots-answers : (out : List ℕ) → slotsSize ≤ length out → negotiates (n .phase) ≡ true → slotsAnswer (encoded n) out ≡ Done
   unfolding slotsAnswer
-  slots-answers out h t = its-own (λ m. ownAnswer m out) ∙ ap (λ (y : Answer). andThen y (roomOf slotsSize out)) (send-done n t)
+  slots-answers out h t = its-own (λ m. outputAnswer m out) ∙ ap (λ (y : Answer). andThen y (roomAnswer slotsSize out)) (send-done n t)
       ∙ roomy slotsSize out h
 
   pub slots-writes : (out : List ℕ) → length out ≡ slotsSize → negotiates (n .phase) ≡ true → outSlots (encoded n) out ≡ ownSlots n
@@ -285,7 +285,7 @@ module _ (a b : List ℕ) (at-a : valid a ≡ true) (at-b : valid b ≡ true)
     unfolding sendingOf
     talking =
         let d = sym (a-node a (sentAnswer sender out) at-a) ∙ sent in
-        talks sender (both-done (sendAnswer sender) (roomOf packetSize out) d .0)
+        talks sender (both-done (sendAnswer sender) (roomAnswer packetSize out) d .0)
 
     sent-is : packet ≡ packetBytes (packetOf sender)
     unfolding outSend

@@ -32,14 +32,16 @@ use Rattle.host.specs.Report.{reportSize, report}
 use Rattle.host.specs.Calls.{andThen, isSized, output, unlessRefused, beginning, afterBegin, restarting, afterRestart, sentAnswer}
 use Rattle.host.specs.Calls.{sendingOf, outSend, heardAnswer, hearingOf, afterHear, groundBytes, closedAnswer, closingOf, afterClose}
 use Rattle.host.specs.Calls.{closeBytes, outClose, toldClose, takenAnswer, takingOf, afterTake, endingOf, afterEnd, wantingOf}
-use Rattle.host.specs.Calls.{afterWant, roomOf, readingOf, outRead, ownSlots, ownAnswer, slotsAnswer, outSlots}
-use Rattle.host.specs.Owners.{Call, begins, restarts, sends, hears, closes, takes, ends, wants, reads, slots, seenOn, areaAfter}
-use Rattle.host.specs.Owners.{nodeAnswer, nodeOutputs, seenOf, nextNode, nodeAfter, areaAfterAll, seenOnAll, nodeAfterAll, seenOfAll}
+use Rattle.host.specs.Calls.{afterWant, roomAnswer, readingOf, outRead, ownSlots, outputAnswer, slotsAnswer, outSlots}
+use Rattle.host.specs.Owners.{BoxCall, begins, restarts, sends, hears, closes, takes, ends, wants, reads, slots, seenOn}
+use Rattle.host.specs.Owners.{areaAfterCall}
+use Rattle.host.specs.Owners.{nodeCallAnswer, nodeOutputs, seenOf, nextNode, nodeAfterCall, areaAfterAll, seenOnAll, nodeAfterAll}
+use Rattle.host.specs.Owners.{seenOfAll}
 use Rattle.host.specs.Owners.{ByOwners}
 use Rattle.host.proofs.Nodes.{node-area, back-is, its-own, then-done}
 use Rattle.host.proofs.Stays.{long-schedule, hear-range, close-range, take-range, end-range, want-range, begin-makes, restart-makes}
 
-abbrev answerOn : List ℕ → Call → Answer
+abbrev answerOn : List ℕ → BoxCall → Answer
 answerOn a c = seenOn a c .answer
 
 -- an area of the right length is no ground for a refusal
@@ -51,7 +53,7 @@ module _ (n : Node) (long : Lengths n) (range : inRange n ≡ true) where
   a = encoded n
 
   -- a call answers as its node does
-  answers : (c : Call) → answerOn a c ≡ nodeAnswer n c
+  answers : (c : BoxCall) → answerOn a c ≡ nodeCallAnswer n c
   unfolding beginning restarting sendingOf hearingOf closingOf takingOf endingOf wantingOf readingOf slotsAnswer
   answers (begins s v flags d) = sized a (startAnswer s v flags d) (length-encoded n long)
   answers (restarts s flags f) = sized a (restartAnswer s flags f) (length-encoded n long)
@@ -61,14 +63,14 @@ module _ (n : Node) (long : Lengths n) (range : inRange n ≡ true) where
   answers (takes q) = its-own n long range (λ m. takenAnswer m q)
   answers ends = its-own n long range endAnswer
   answers (wants d) = ap (λ (t : Bool). cond (ltb topRequest d) OutOfRange (cond t Done NotANode)) (node-area n long range)
-  answers (reads out) = its-own n long range (λ m. roomOf reportSize out)
-  answers (slots out) = its-own n long range (λ m. ownAnswer m out)
+  answers (reads out) = its-own n long range (λ m. roomAnswer reportSize out)
+  answers (slots out) = its-own n long range (λ m. outputAnswer m out)
 
   -- and writes what its node does
   written-by : (x y : Answer) (f : Node → List ℕ) (out : List ℕ) → x ≡ y → output x (f (decoded a)) out ≡ output y (f n) out
   written-by x y f out e = ap₂ (λ (z : Answer) (m : Node). output z (f m) out) e (back-is n long range)
 
-  outputs : (c : Call) → seenOn a c .outputs ≡ nodeOutputs n c
+  outputs : (c : BoxCall) → seenOn a c .outputs ≡ nodeOutputs n c
   unfolding outSend outClose toldClose outRead outSlots
   outputs (begins s v flags d) = refl
   outputs (restarts s flags f) = refl
@@ -83,7 +85,7 @@ module _ (n : Node) (long : Lengths n) (range : inRange n ≡ true) where
   outputs (reads out) = ap (λ (o : List ℕ). o ∷ []) (written-by _ _ report out (answers (reads out)))
   outputs (slots out) = ap (λ (o : List ℕ). o ∷ []) (written-by _ _ ownSlots out (answers (slots out)))
 
-  seen-is : (c : Call) → seenOn a c ≡ seenOf n c
+  seen-is : (c : BoxCall) → seenOn a c ≡ seenOf n c
   seen-is c = let p = answers c in let q = outputs c in λ i. record { answer = p i; outputs = q i }
 
   -- and leaves the bytes of its node's step
@@ -94,7 +96,7 @@ module _ (n : Node) (long : Lengths n) (range : inRange n ≡ true) where
   same-either : (y : Answer) → a ≡ encoded (cond (isDone y) n n)
   same-either y = by-test (λ (m : Node). a ≡ encoded m) (isDone y) n n (λ _. refl) (λ _. refl)
 
-  leaves : (c : Call) → areaAfter a c ≡ encoded (nodeAfter n c)
+  leaves : (c : BoxCall) → areaAfterCall a c ≡ encoded (nodeAfterCall n c)
   unfolding afterBegin afterRestart afterHear afterClose afterTake afterEnd afterWant
   leaves (begins s v flags d) = kept _ _ (λ m. starting s v flags d) (answers (begins s v flags d))
   leaves (restarts s flags f) = kept _ _ (λ m. waiting s flags f 0) (answers (restarts s flags f))
@@ -104,11 +106,11 @@ module _ (n : Node) (long : Lengths n) (range : inRange n ≡ true) where
   leaves (takes q) = kept _ _ (λ m. nextNode m (takes q)) (answers (takes q))
   leaves ends = kept _ _ (λ m. nextNode m ends) (answers ends)
   leaves (wants d) = kept _ _ (λ m. nextNode m (wants d)) (answers (wants d))
-  leaves (reads out) = same-either (roomOf reportSize out)
-  leaves (slots out) = same-either (ownAnswer n out)
+  leaves (reads out) = same-either (roomAnswer reportSize out)
+  leaves (slots out) = same-either (outputAnswer n out)
 
   -- a node's step stays in range
-  next-long : (c : Call) → Lengths (nextNode n c)
+  next-long : (c : BoxCall) → Lengths (nextNode n c)
   next-long (begins s v flags d) = long-start s v flags d
   next-long (restarts s flags f) = long-restart s flags f 0
   next-long (sends out) = long
@@ -120,7 +122,7 @@ module _ (n : Node) (long : Lengths n) (range : inRange n ≡ true) where
   next-long (reads out) = long
   next-long (slots out) = long
 
-  next-range : (c : Call) → nodeAnswer n c ≡ Done → inRange (nextNode n c) ≡ true
+  next-range : (c : BoxCall) → nodeCallAnswer n c ≡ Done → inRange (nextNode n c) ≡ true
   next-range (begins s v flags d) e = keeps-start s v flags d e
   next-range (restarts s flags f) e = keeps-restart s flags f 0 e (omega arith)
   next-range (sends out) e = range
@@ -137,31 +139,31 @@ module _ (n : Node) (long : Lengths n) (range : inRange n ≡ true) where
   next-range (reads out) e = range
   next-range (slots out) e = range
 
-  after-long : (c : Call) → Lengths (nodeAfter n c)
-  after-long c = by-test Lengths (isDone (nodeAnswer n c)) (nextNode n c) n (λ _. next-long c) (λ _. long)
+  after-long : (c : BoxCall) → Lengths (nodeAfterCall n c)
+  after-long c = by-test Lengths (isDone (nodeCallAnswer n c)) (nextNode n c) n (λ _. next-long c) (λ _. long)
 
-  after-range : (c : Call) → inRange (nodeAfter n c) ≡ true
-  after-range c = by-test (λ (m : Node). inRange m ≡ true) (isDone (nodeAnswer n c)) (nextNode n c) n (λ d. next-range c (done-is _ d))
+  after-range : (c : BoxCall) → inRange (nodeAfterCall n c) ≡ true
+  after-range c = by-test (λ (m : Node). inRange m ≡ true) (isDone (nodeCallAnswer n c)) (nextNode n c) n (λ d. next-range c (done-is _ d))
       (λ _. range)
 
 -- Lists of calls
 
-seen-all : (n : Node) → Lengths n → inRange n ≡ true → (cs : List Call) → seenOnAll (encoded n) cs ≡ seenOfAll n cs
+seen-all : (n : Node) → Lengths n → inRange n ≡ true → (cs : List BoxCall) → seenOnAll (encoded n) cs ≡ seenOfAll n cs
 unfolding seenOnAll seenOfAll
 seen-all n l r [] = refl
 seen-all n l r (c ∷ cs) = ap₂ _∷_ (seen-is n l r c)
-    (ap (λ (b : List ℕ). seenOnAll b cs) (leaves n l r c) ∙ seen-all (nodeAfter n c) (after-long n l r c) (after-range n l r c) cs)
+    (ap (λ (b : List ℕ). seenOnAll b cs) (leaves n l r c) ∙ seen-all (nodeAfterCall n c) (after-long n l r c) (after-range n l r c) cs)
 
-held-all : (n : Node) → Lengths n → inRange n ≡ true → (cs : List Call) → areaAfterAll (encoded n) cs ≡ encoded (nodeAfterAll n cs)
+held-all : (n : Node) → Lengths n → inRange n ≡ true → (cs : List BoxCall) → areaAfterAll (encoded n) cs ≡ encoded (nodeAfterAll n cs)
 unfolding areaAfterAll nodeAfterAll
 held-all n l r [] = refl
 held-all n l r (c ∷ cs) = ap (λ (b : List ℕ). areaAfterAll b cs) (leaves n l r c)
-    ∙ held-all (nodeAfter n c) (after-long n l r c) (after-range n l r c) cs
+    ∙ held-all (nodeAfterCall n c) (after-long n l r c) (after-range n l r c) cs
 
-valid-all : (n : Node) → Lengths n → inRange n ≡ true → (cs : List Call) → valid (encoded (nodeAfterAll n cs)) ≡ true
+valid-all : (n : Node) → Lengths n → inRange n ≡ true → (cs : List BoxCall) → valid (encoded (nodeAfterAll n cs)) ≡ true
 unfolding nodeAfterAll
 valid-all n l r [] = accepted n l r
-valid-all n l r (c ∷ cs) = valid-all (nodeAfter n c) (after-long n l r c) (after-range n l r c) cs
+valid-all n l r (c ∷ cs) = valid-all (nodeAfterCall n c) (after-long n l r c) (after-range n l r c) cs
 
 pub by-owners : ByOwners
 unfolding beginning restarting afterBegin afterRestart
@@ -178,5 +180,5 @@ by-owners =
           (g, ap (λ (x : Answer). unlessRefused x (waiting s flags f 0) a) g, restart-makes a s flags f g);
     }
   where
-    all-held : (a : List ℕ) → valid a ≡ true → (cs : List Call) → areaAfterAll a cs ≡ encoded (nodeAfterAll (decoded a) cs)
+    all-held : (a : List ℕ) → valid a ≡ true → (cs : List BoxCall) → areaAfterAll a cs ≡ encoded (nodeAfterAll (decoded a) cs)
     all-held a v cs = ap (λ (b : List ℕ). areaAfterAll b cs) (sym (canonical a v)) ∙ held-all (decoded a) (lengths a) (range-of a v) cs

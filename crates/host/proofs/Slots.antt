@@ -43,7 +43,7 @@ use Rattle.area.proofs.Valid.{range-of}
 use Rattle.area.proofs.Canon.{lengths}
 use Rattle.area.proofs.Masked.{slots-held, own-is, own-row}
 use Rattle.host.specs.Report.{reportSize, report}
-use Rattle.host.specs.Calls.{andThen, isNodeArea, roomOf, output, readingOf, outRead, slotsSize, isOwn, ownSlots, ownAnswer}
+use Rattle.host.specs.Calls.{andThen, isNodeArea, roomAnswer, output, readingOf, outRead, slotsSize, isOwn, ownSlots, outputAnswer}
 use Rattle.host.specs.Calls.{slotsAnswer, outSlots}
 use Rattle.host.specs.Slots.{shownOwner, shownPhase, toldSlot, RowOf, SlotsTold}
 use Rattle.host.proofs.Answers.{a-node}
@@ -64,7 +64,7 @@ slots-valid a out d = node-of a _ d
 
 pub read-done : (a out : List ℕ) → valid a ≡ true → reportSize ≤ length out → readingOf a out ≡ Done
 unfolding readingOf
-read-done a out v h = a-node a (roomOf reportSize out) v ∙ roomy reportSize out h
+read-done a out v h = a-node a (roomAnswer reportSize out) v ∙ roomy reportSize out h
 
 -- its node's number is 1 to 32
 pub numbered : (a : List ℕ) → valid a ≡ true → (1 ≤ decoded a .setup .node) × (decoded a .setup .node ≤ 32)
@@ -102,8 +102,8 @@ phase-so : (a words out : List ℕ) → slotsAnswer a words ≡ Done → reading
 unfolding slotsAnswer
 phase-so a words out d e =
     let n = decoded a in
-    let own = both-done (isNodeArea a) (ownAnswer n words) d .1 in
-    let t = talks n (both-done (sendAnswer n) (roomOf slotsSize words) own .0) in
+    let own = both-done (isNodeArea a) (outputAnswer n words) d .1 in
+    let t = talks n (both-done (sendAnswer n) (roomAnswer slotsSize words) own .0) in
     let l : length (report n) ≡ reportSize = length-report n (lengths a) in
     ap shownPhase (read-is a out e) ∙ List·getD-append (report n) _ 0 94 (omega (arith, l)) ∙ phase-in n (lengths a)
     ∙ first-byte (n .phase) t
@@ -173,8 +173,8 @@ module _ (a words : List ℕ) (d : slotsAnswer a words ≡ Done) where
 module _ (m n : Node) (lm : Lengths m) (rm : inRange m ≡ true) (ln : Lengths n) (rn : inRange n ≡ true)
     (number : m .setup .node ≡ n .setup .node) (owners : ownersOf (m .schedule) ≡ ownersOf (n .schedule)) (phase : m .phase ≡ n .phase)
     (out : List ℕ) where
-  answered-alike : ownAnswer m out ≡ ownAnswer n out
-  answered-alike = ap (λ (x : Answer). andThen x (roomOf slotsSize out)) (send-phase m ∙ ap inNegotiation phase ∙ sym (send-phase n))
+  answered-alike : outputAnswer m out ≡ outputAnswer n out
+  answered-alike = ap (λ (x : Answer). andThen x (roomAnswer slotsSize out)) (send-phase m ∙ ap inNegotiation phase ∙ sym (send-phase n))
 
   own-alike : ownSlots m ≡ ownSlots n
   unfolding ownSlots
@@ -183,9 +183,9 @@ module _ (m n : Node) (lm : Lengths m) (rm : inRange m ≡ true) (ln : Lengths n
       (λ k. eqb (ownerOf s k) j) ∷ [])
       (same-owners (m .schedule) (n .schedule) owners) number
 
-  answer-of : (o : Node) → Lengths o → inRange o ≡ true → slotsAnswer (encoded o) out ≡ ownAnswer o out
+  answer-of : (o : Node) → Lengths o → inRange o ≡ true → slotsAnswer (encoded o) out ≡ outputAnswer o out
   unfolding slotsAnswer
-  answer-of o l r = its-own o l r (λ x. ownAnswer x out)
+  answer-of o l r = its-own o l r (λ x. outputAnswer x out)
 
   pub same-answer : slotsAnswer (encoded m) out ≡ slotsAnswer (encoded n) out
   same-answer = answer-of m lm rm ∙ answered-alike ∙ sym (answer-of n ln rn)

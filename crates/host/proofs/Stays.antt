@@ -34,7 +34,8 @@ use Rattle.wire.specs.Reads.{packetOk, packetAnswer, versionedOk, scheduleAnswe
 use Rattle.wire.proofs.Laws.{keeps, read-accepted}
 use Rattle.area.specs.Area.{decoded, encoded, valid}
 use Rattle.host.specs.Calls.{andThen, isNodeArea, isSized, unlessRefused, beginning, afterBegin, restarting, afterRestart}
-use Rattle.host.specs.Calls.{heardAnswer, hearingOf, afterHear, roomOf, groundSize, closeRoom, closedAnswer, closingOf, afterClose}
+use Rattle.host.specs.Calls.{heardAnswer, hearingOf, afterHear, roomAnswer, groundSize, closeRoom, closedAnswer, closingOf}
+use Rattle.host.specs.Calls.{afterClose}
 use Rattle.host.specs.Calls.{takenAnswer, takingOf, afterTake, endingOf, afterEnd, wantingOf, afterWant}
 use Rattle.area.proofs.Valid.{range-of}
 use Rattle.host.proofs.Answers.{a-node}
@@ -116,7 +117,7 @@ module _ (a : List ℕ) (v : valid a ≡ true) where
   close-range out told e =
       let n = decoded a in
       keeps-close n (range-of a v)
-      (both-done (closeAnswer n) (andThen (roomOf groundSize told) (closeRoom (closedNode n) out))
+      (both-done (closeAnswer n) (andThen (roomAnswer groundSize told) (closeRoom (closedNode n) out))
       (node-done a (closedAnswer n out told) v e) .0)
 
   pub close-stays : (out told : List ℕ) → valid (afterClose a out told) ≡ true

@@ -42,7 +42,7 @@ use Rattle.area.specs.Area.{nodeSize, atSchedule, encoded, decoded, valid}
 use Rattle.area.specs.Steps.{areaStepped}
 use Rattle.area.proofs.Steps.{begun, stepped}
 use Rattle.host.proofs.Stays.{schedule-sound}
-use Rattle.host.specs.Calls.{andThen, isNodeArea, roomOf, isSized, unlessRefused, sentAnswer, heardAnswer, takenAnswer, wantingOf}
+use Rattle.host.specs.Calls.{andThen, isNodeArea, roomAnswer, isSized, unlessRefused, sentAnswer, heardAnswer, takenAnswer, wantingOf}
 
 -- a beginning in an area, by whether this has its length
 began : (a : List ℕ) (c : Core) {m : List ℕ} (t : Bool) → Lengths (bare c) → eqb (length a) nodeSize ≡ t → m ≡ areaStepped c Free c a
@@ -112,7 +112,7 @@ taken-masks n q e =
 
 -- the answers of a node without its schedules
 pub sent-bare : (n : Node) (out : List ℕ) → sentAnswer (bare (coreOf n)) out ≡ sentAnswer n out
-sent-bare n out = ap (λ (x : Answer). andThen x (roomOf packetSize out)) (send-phase (bare (coreOf n)) ∙ sym (send-phase n))
+sent-bare n out = ap (λ (x : Answer). andThen x (roomAnswer packetSize out)) (send-phase (bare (coreOf n)) ∙ sym (send-phase n))
 
 pub heard-bare : (n : Node) (p : List ℕ) → heardAnswer (bare (coreOf n)) p ≡ heardAnswer n p
 heard-bare n p =

@@ -38,8 +38,8 @@ abbrev pub isNodeArea : List ℕ → Answer
 isNodeArea a = cond (valid a) Done NotANode
 
 -- 15 unless an output has room for n bytes, or n numbers
-abbrev pub roomOf : ℕ → List ℕ → Answer
-roomOf n out = cond (leb n (length out)) Done NoRoom
+abbrev pub roomAnswer : ℕ → List ℕ → Answer
+roomAnswer n out = cond (leb n (length out)) Done NoRoom
 
 -- an area of another length is no node's
 abbrev pub isSized : List ℕ → Answer
@@ -74,7 +74,7 @@ afterRestart a s flags place = unlessRefused (restarting a s flags place) (waiti
 
 -- a node's answer to a send with an output: 4, 15
 abbrev pub sentAnswer : Node → List ℕ → Answer
-sentAnswer n out = andThen (sendAnswer n) (roomOf packetSize out)
+sentAnswer n out = andThen (sendAnswer n) (roomAnswer packetSize out)
 
 -- send: 14, 4, 15
 unfoldable pub sendingOf : List ℕ → List ℕ → Answer
@@ -96,7 +96,7 @@ afterHear a p = unlessRefused (hearingOf a p) (heardNode (decoded a) (packetIn p
 
 -- a close that sends needs room for the 84 bytes, and one that doesn't needs none
 abbrev pub closeRoom : Node → List ℕ → Answer
-closeRoom n out = cond (sending (n .phase)) (roomOf scheduleSize out) Done
+closeRoom n out = cond (sending (n .phase)) (roomAnswer scheduleSize out) Done
 
 -- the ground of a close, 2 bytes: the rule's number, and the lowest missing node
 abbrev pub groundSize : ℕ
@@ -107,7 +107,7 @@ groundBytes g = ruleNumber (g .rule) ∷ g .missing ∷ []
 
 -- a node's answer to a close with an output and a place for its ground: 4, 15
 abbrev pub closedAnswer : Node → List ℕ → List ℕ → Answer
-closedAnswer n out told = andThen (closeAnswer n) (andThen (roomOf groundSize told) (closeRoom (closedNode n) out))
+closedAnswer n out told = andThen (closeAnswer n) (andThen (roomAnswer groundSize told) (closeRoom (closedNode n) out))
 
 -- close: 14, 4, 15
 unfoldable pub closingOf : List ℕ → List ℕ → List ℕ → Answer
@@ -154,7 +154,7 @@ afterWant a d = unlessRefused (wantingOf a d) (wantedNode (decoded a) d) a
 
 -- the read of what a node holds: 14, 15
 unfoldable pub readingOf : List ℕ → List ℕ → Answer
-readingOf a out = andThen (isNodeArea a) (roomOf reportSize out)
+readingOf a out = andThen (isNodeArea a) (roomAnswer reportSize out)
 
 unfoldable pub outRead : List ℕ → List ℕ → List ℕ
 outRead a out = output (readingOf a out) (report (decoded a)) out
@@ -172,12 +172,12 @@ unfoldable pub ownSlots : Node → List ℕ
 ownSlots n = wordOf 64 (isOwn n) ∷ wordOf 16 (λ k. isOwn n (64 + k)) ∷ howMany 80 (isOwn n) ∷ []
 
 -- a node's answer to the call with an output: 4, 15
-abbrev pub ownAnswer : Node → List ℕ → Answer
-ownAnswer n out = andThen (sendAnswer n) (roomOf slotsSize out)
+abbrev pub outputAnswer : Node → List ℕ → Answer
+outputAnswer n out = andThen (sendAnswer n) (roomAnswer slotsSize out)
 
 -- slots: 14, 4, 15
 unfoldable pub slotsAnswer : List ℕ → List ℕ → Answer
-slotsAnswer a out = andThen (isNodeArea a) (ownAnswer (decoded a) out)
+slotsAnswer a out = andThen (isNodeArea a) (outputAnswer (decoded a) out)
 
 unfoldable pub outSlots : List ℕ → List ℕ → List ℕ
 outSlots a out = output (slotsAnswer a out) (ownSlots (decoded a)) out

@@ -26,21 +26,22 @@ use Rattle.area.specs.Area.{nodeSize, encoded, decoded, valid}
 use Rattle.host.specs.Report.{reportSize, report}
 use Rattle.host.specs.Calls.{output, beginning, afterBegin, restarting, afterRestart, sentAnswer, sendingOf, outSend, heardAnswer}
 use Rattle.host.specs.Calls.{hearingOf, afterHear, groundBytes, closedAnswer, closingOf, afterClose, closeBytes, outClose, toldClose}
-use Rattle.host.specs.Calls.{takenAnswer, takingOf, afterTake, endingOf, afterEnd, wantingOf, afterWant, roomOf, readingOf, outRead}
-use Rattle.host.specs.Calls.{ownSlots, ownAnswer, slotsAnswer, outSlots}
+use Rattle.host.specs.Calls.{takenAnswer, takingOf, afterTake, endingOf, afterEnd, wantingOf, afterWant, roomAnswer, readingOf}
+use Rattle.host.specs.Calls.{outRead}
+use Rattle.host.specs.Calls.{ownSlots, outputAnswer, slotsAnswer, outSlots}
 
 -- a call, with its numbers and with what it is lent beside the area
-pub data Call : Type 0 where
-  begins : Setup → ℕ → ℕ → ℕ → Call
-  restarts : Setup → ℕ → ℕ → Call
-  sends : List ℕ → Call
-  hears : List ℕ → Call
-  closes : List ℕ → List ℕ → Call
-  takes : List ℕ → Call
-  ends : Call
-  wants : ℕ → Call
-  reads : List ℕ → Call
-  slots : List ℕ → Call
+pub data BoxCall : Type 0 where
+  begins : Setup → ℕ → ℕ → ℕ → BoxCall
+  restarts : Setup → ℕ → ℕ → BoxCall
+  sends : List ℕ → BoxCall
+  hears : List ℕ → BoxCall
+  closes : List ℕ → List ℕ → BoxCall
+  takes : List ℕ → BoxCall
+  ends : BoxCall
+  wants : ℕ → BoxCall
+  reads : List ℕ → BoxCall
+  slots : List ℕ → BoxCall
 
 -- what a caller sees of a call: the answer, and what each output holds then
 pub record Seen : Type 0 where
@@ -49,7 +50,7 @@ pub record Seen : Type 0 where
 
 -- On an area, by the definitions of the C calls
 
-abbrev pub seenOn : List ℕ → Call → Seen
+abbrev pub seenOn : List ℕ → BoxCall → Seen
 seenOn a (begins s v flags d) = record { answer = beginning a s v flags d; outputs = [] }
 seenOn a (restarts s flags f) = record { answer = restarting a s flags f; outputs = [] }
 seenOn a (sends out) = record { answer = sendingOf a out; outputs = outSend a out ∷ [] }
@@ -61,33 +62,33 @@ seenOn a (wants d) = record { answer = wantingOf a d; outputs = [] }
 seenOn a (reads out) = record { answer = readingOf a out; outputs = outRead a out ∷ [] }
 seenOn a (slots out) = record { answer = slotsAnswer a out; outputs = outSlots a out ∷ [] }
 
-abbrev pub areaAfter : List ℕ → Call → List ℕ
-areaAfter a (begins s v flags d) = afterBegin a s v flags d
-areaAfter a (restarts s flags f) = afterRestart a s flags f
-areaAfter a (sends out) = a
-areaAfter a (hears p) = afterHear a p
-areaAfter a (closes out told) = afterClose a out told
-areaAfter a (takes q) = afterTake a q
-areaAfter a ends = afterEnd a
-areaAfter a (wants d) = afterWant a d
-areaAfter a (reads out) = a
-areaAfter a (slots out) = a
+abbrev pub areaAfterCall : List ℕ → BoxCall → List ℕ
+areaAfterCall a (begins s v flags d) = afterBegin a s v flags d
+areaAfterCall a (restarts s flags f) = afterRestart a s flags f
+areaAfterCall a (sends out) = a
+areaAfterCall a (hears p) = afterHear a p
+areaAfterCall a (closes out told) = afterClose a out told
+areaAfterCall a (takes q) = afterTake a q
+areaAfterCall a ends = afterEnd a
+areaAfterCall a (wants d) = afterWant a d
+areaAfterCall a (reads out) = a
+areaAfterCall a (slots out) = a
 
 -- On a node, whose schedules are owner bytes: no area and no mask is looked at
 
-abbrev pub nodeAnswer : Node → Call → Answer
-nodeAnswer n (begins s v flags d) = startAnswer s v flags d
-nodeAnswer n (restarts s flags f) = restartAnswer s flags f
-nodeAnswer n (sends out) = sentAnswer n out
-nodeAnswer n (hears p) = heardAnswer n p
-nodeAnswer n (closes out told) = closedAnswer n out told
-nodeAnswer n (takes q) = takenAnswer n q
-nodeAnswer n ends = endAnswer n
-nodeAnswer n (wants d) = cond (ltb topRequest d) OutOfRange Done
-nodeAnswer n (reads out) = roomOf reportSize out
-nodeAnswer n (slots out) = ownAnswer n out
+abbrev pub nodeCallAnswer : Node → BoxCall → Answer
+nodeCallAnswer n (begins s v flags d) = startAnswer s v flags d
+nodeCallAnswer n (restarts s flags f) = restartAnswer s flags f
+nodeCallAnswer n (sends out) = sentAnswer n out
+nodeCallAnswer n (hears p) = heardAnswer n p
+nodeCallAnswer n (closes out told) = closedAnswer n out told
+nodeCallAnswer n (takes q) = takenAnswer n q
+nodeCallAnswer n ends = endAnswer n
+nodeCallAnswer n (wants d) = cond (ltb topRequest d) OutOfRange Done
+nodeCallAnswer n (reads out) = roomAnswer reportSize out
+nodeCallAnswer n (slots out) = outputAnswer n out
 
-abbrev pub nodeOutputs : Node → Call → List (List ℕ)
+abbrev pub nodeOutputs : Node → BoxCall → List (List ℕ)
 nodeOutputs n (begins s v flags d) = []
 nodeOutputs n (restarts s flags f) = []
 nodeOutputs n (sends out) = output (sentAnswer n out) (packetBytes (packetOf n)) out ∷ []
@@ -97,14 +98,14 @@ nodeOutputs n (closes out told) = output (closedAnswer n out told) (closeBytes (
 nodeOutputs n (takes q) = []
 nodeOutputs n ends = []
 nodeOutputs n (wants d) = []
-nodeOutputs n (reads out) = output (roomOf reportSize out) (report n) out ∷ []
-nodeOutputs n (slots out) = output (ownAnswer n out) (ownSlots n) out ∷ []
+nodeOutputs n (reads out) = output (roomAnswer reportSize out) (report n) out ∷ []
+nodeOutputs n (slots out) = output (outputAnswer n out) (ownSlots n) out ∷ []
 
-abbrev pub seenOf : Node → Call → Seen
-seenOf n c = record { answer = nodeAnswer n c; outputs = nodeOutputs n c }
+abbrev pub seenOf : Node → BoxCall → Seen
+seenOf n c = record { answer = nodeCallAnswer n c; outputs = nodeOutputs n c }
 
 -- the node after an accepted call; a refused one leaves it
-abbrev pub nextNode : Node → Call → Node
+abbrev pub nextNode : Node → BoxCall → Node
 nextNode n (begins s v flags d) = starting s v flags d
 nextNode n (restarts s flags f) = waiting s flags f 0
 nextNode n (sends out) = n
@@ -116,34 +117,34 @@ nextNode n (wants d) = wantedNode n d
 nextNode n (reads out) = n
 nextNode n (slots out) = n
 
-abbrev pub nodeAfter : Node → Call → Node
-nodeAfter n c = cond (isDone (nodeAnswer n c)) (nextNode n c) n
+abbrev pub nodeAfterCall : Node → BoxCall → Node
+nodeAfterCall n c = cond (isDone (nodeCallAnswer n c)) (nextNode n c) n
 
 -- Lists of calls
 
-unfoldable pub areaAfterAll : List ℕ → List Call → List ℕ
+unfoldable pub areaAfterAll : List ℕ → List BoxCall → List ℕ
 areaAfterAll a [] = a
-areaAfterAll a (c ∷ cs) = areaAfterAll (areaAfter a c) cs
+areaAfterAll a (c ∷ cs) = areaAfterAll (areaAfterCall a c) cs
 
-unfoldable pub seenOnAll : List ℕ → List Call → List Seen
+unfoldable pub seenOnAll : List ℕ → List BoxCall → List Seen
 seenOnAll a [] = []
-seenOnAll a (c ∷ cs) = seenOn a c ∷ seenOnAll (areaAfter a c) cs
+seenOnAll a (c ∷ cs) = seenOn a c ∷ seenOnAll (areaAfterCall a c) cs
 
-unfoldable pub nodeAfterAll : Node → List Call → Node
+unfoldable pub nodeAfterAll : Node → List BoxCall → Node
 nodeAfterAll n [] = n
-nodeAfterAll n (c ∷ cs) = nodeAfterAll (nodeAfter n c) cs
+nodeAfterAll n (c ∷ cs) = nodeAfterAll (nodeAfterCall n c) cs
 
-unfoldable pub seenOfAll : Node → List Call → List Seen
+unfoldable pub seenOfAll : Node → List BoxCall → List Seen
 seenOfAll n [] = []
-seenOfAll n (c ∷ cs) = seenOf n c ∷ seenOfAll (nodeAfter n c) cs
+seenOfAll n (c ∷ cs) = seenOf n c ∷ seenOfAll (nodeAfterCall n c) cs
 
 -- the statement: proved in proofs/Owners.antt
 pub record ByOwners : Type 0 where
   -- on an area that a call accepts: all that is seen of a list of calls, and the node that the area holds then
-  pub seen : (a : List ℕ) → valid a ≡ true → (cs : List Call) → seenOnAll a cs ≡ seenOfAll (decoded a) cs
-  pub held : (a : List ℕ) → valid a ≡ true → (cs : List Call) → areaAfterAll a cs ≡ encoded (nodeAfterAll (decoded a) cs)
+  pub seen : (a : List ℕ) → valid a ≡ true → (cs : List BoxCall) → seenOnAll a cs ≡ seenOfAll (decoded a) cs
+  pub held : (a : List ℕ) → valid a ≡ true → (cs : List BoxCall) → areaAfterAll a cs ≡ encoded (nodeAfterAll (decoded a) cs)
   -- and the next call accepts it again
-  pub accepted : (a : List ℕ) → valid a ≡ true → (cs : List Call) → valid (areaAfterAll a cs) ≡ true
+  pub accepted : (a : List ℕ) → valid a ≡ true → (cs : List BoxCall) → valid (areaAfterAll a cs) ≡ true
   -- a beginning or a restart on 828 bytes of anything does what it does on a node
   pub begun : (a : List ℕ) → length a ≡ nodeSize → (s : Setup) (v flags d : ℕ) → startAnswer s v flags d ≡ Done
       → (beginning a s v flags d ≡ Done) × (afterBegin a s v flags d ≡ encoded (starting s v flags d))

@@ -14,7 +14,7 @@ ghost use Rattle.wire.specs.Layout.{scheduleSize, packetBytes, packetIn};
 ghost use Rattle.area.specs.Area.{nodeSize, atSchedule};
 ghost use Rattle.area.specs.Steps.{areaHolding};
 ghost use Rattle.host.specs.Report.{reportSize, report};
-ghost use Rattle.host.specs.Calls.{isSized, unlessRefused, roomOf, output, sentAnswer, heardAnswer, closeRoom, groundSize};
+ghost use Rattle.host.specs.Calls.{isSized, unlessRefused, roomAnswer, output, sentAnswer, heardAnswer, closeRoom, groundSize};
 ghost use Rattle.host.specs.Calls.{groundBytes, closeBytes, takenAnswer, slotsSize};
 use crate::NOT_A_NODE;
 use crate::REPORT;
@@ -110,7 +110,7 @@ pub(crate) fn put_sent(area: &[u8], next: Core, out: &mut [u8])
 
 // The ground of a close at the start of an output that has room for it.
 pub(crate) fn put_ground(g: Ground, out: &mut [u8])
-    ensures { λ _. ⌜ now (out .exit) ≡ output (roomOf groundSize (now (out .entry))) (groundBytes g) (now (out .entry)) ⌝ }
+    ensures { λ _. ⌜ now (out .exit) ≡ output (roomAnswer groundSize (now (out .entry))) (groundBytes g) (now (out .entry)) ⌝ }
 {
     let rule = g.rule;
     let b = [node::rule_number(rule), g.missing];
@@ -130,7 +130,7 @@ pub(crate) fn send_into(c: Core, out: &mut [u8]) -> Answer
     }
     let s = c.send();
     let p = s.packet;
-    if !wire::place_packet(out, 0, p) {
+    if !wire::put_packet(out, 0, p) {
         return Answer::NoRoom;
     }
     Answer::Done
@@ -139,8 +139,8 @@ pub(crate) fn send_into(c: Core, out: &mut [u8]) -> Answer
 // What a box acts on, at the start of an output that has room for it.
 pub(crate) fn report_into(c: Core, area: &[u8], out: &mut [u8]) -> Answer
     requires { ⌜ length (now area) ≡ nodeSize ⌝ }
-    ensures { λ r. ⌜ r ≡ roomOf reportSize (now (out .entry)) ⌝ }
-    ensures { λ _. ⌜ now (out .exit) ≡ output (roomOf reportSize (now (out .entry)))
+    ensures { λ r. ⌜ r ≡ roomAnswer reportSize (now (out .entry)) ⌝ }
+    ensures { λ _. ⌜ now (out .exit) ≡ output (roomAnswer reportSize (now (out .entry)))
         (report (nodeOf c (pair (scheduleOf (ownersTo (masksIn (now (area .entry)) atSchedule) (c .setup .config .nodes))) free)))
         (now (out .entry)) ⌝ }
 {
@@ -160,8 +160,8 @@ pub(crate) fn report_into(c: Core, area: &[u8], out: &mut [u8]) -> Answer
 
 // A node's two words and their number, at the start of an output that has room for them.
 pub(crate) fn own_into(own: NodeSlots, out: &mut [u64]) -> Answer
-    ensures { λ r. ⌜ r ≡ roomOf slotsSize (now (out .entry)) ⌝ }
-    ensures { λ _. ⌜ now (out .exit) ≡ output (roomOf slotsSize (now (out .entry))) (own .low ∷ own .high ∷ own .count ∷ [])
+    ensures { λ r. ⌜ r ≡ roomAnswer slotsSize (now (out .entry)) ⌝ }
+    ensures { λ _. ⌜ now (out .exit) ≡ output (roomAnswer slotsSize (now (out .entry))) (own .low ∷ own .high ∷ own .count ∷ [])
         (now (out .entry)) ⌝ }
 {
     if out.len() < SLOTS {

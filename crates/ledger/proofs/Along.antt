@@ -11,7 +11,7 @@ use Rattle.node.specs.declared.Answer.the-variants.{NoRoom}
 use Rattle.site.specs.Answers.{siteEnd, answerOf}
 use Rattle.site.specs.Steps.{siteAfter, areaAfter}
 use Rattle.site.specs.Events.{isEnd}
-use Rattle.site.specs.Run.{World}
+use Rattle.site.specs.Run.{RunState}
 use Rattle.site.specs.Model.{Site}
 use Rattle.site.specs.declared.Event.{Event}
 use Rattle.site.specs.declared.Event.the-variants.{Send, Hear, Close, Take, End, Want, Crash, Restart}
@@ -19,12 +19,12 @@ use Rattle.traces.specs.Past.{Past, noPast, recorded, pastAfter}
 use Rattle.windows.specs.declared.Window.{Window}
 use Rattle.machine.specs.Layout.{Store, siteIn}
 use Rattle.machine.specs.hours.Hours.{Timed, epochAfter, givenSite, inLastRound, timedAnswer, givenBefore, nextTimed, timedAfter}
-use Rattle.machine.specs.hours.Calls.{TimedWorld, afterCall, runCalls}
+use Rattle.machine.specs.hours.Calls.{TimedState, afterCall, runCalls}
 use Rattle.machine.specs.hours.Stored.{timedIn}
 use Rattle.machine.specs.declared.Day.{Day}
 use Rattle.machine.proofs.hours.Laws.{done-after}
 use Rattle.agreement.specs.daily.Daily.{pastAfterCall, traceCalls}
-use Rattle.tally.specs.Counting.{first, tallyOk}
+use Rattle.tally.specs.Counting.{firstTally, tallyOk}
 use Rattle.tally.specs.Ends.{tallyAt, talliedSite, tallyAfter}
 use Rattle.tally.specs.declared.Tally.{Tally}
 use Rattle.tally.proofs.Valid.{first-valid, valid}
@@ -33,13 +33,13 @@ use Rattle.agreement.specs.accounts.Accounts.{epochSite}
 use Rattle.agreement.proofs.accounts.Counted.{Goes, goes}
 use Rattle.agreement.proofs.accounts.Slots.{Sums, sums-step}
 use Rattle.machine.specs.turn.Kept.{Kept, keptAnswer, nextKept, keptAfter}
-use Rattle.machine.specs.turn.Stored.{tooFew, keptIn, stepAnswer, isAccepted, stepKept}
+use Rattle.machine.specs.turn.Stored.{lentTooShort, keptIn, stepAnswer, stepAccepted, stepKept}
 use Rattle.machine.proofs.turn.Laws.{step-accepts}
-use Rattle.ledger.specs.Lists.{Step, callsIn, pastBy, begunBy, Threaded, tallyBy, Accounted}
+use Rattle.ledger.specs.Lists.{SiteStep, callsIn, pastBy, begunBy, Threaded, tallyBy, Accounted}
 
 -- an accepted event in lent storage
 pub step-kept : (s : Store) (d : Day) (l : List ℕ) (ws : List Window) (t : Tally) (out : List ℕ) (e : Event)
-    → isAccepted s d l ws t out e ≡ true
+    → stepAccepted s d l ws t out e ≡ true
     → stepKept s d l ws t out e
     ≡ record {
       timed = timedAfter (timedIn s d) l ws e;
@@ -47,7 +47,7 @@ pub step-kept : (s : Store) (d : Day) (l : List ℕ) (ws : List Window) (t : Tal
       tally = cond (isEnd e) (tallyAt (timedAfter (timedIn s d) l ws e .site) t) t;
     }
 unfolding stepAnswer stepKept keptAfter nextKept
-step-kept s d l ws t out e h = go (tooFew s l out) refl
+step-kept s d l ws t out e h = go (lentTooShort s l out) refl
   where
     k : Kept
     k = keptIn s d l t
@@ -55,7 +55,7 @@ step-kept s d l ws t out e h = go (tooFew s l out) refl
     x : Timed
     x = timedAfter (timedIn s d) l ws e
 
-    go : (b : Bool) → tooFew s l out ≡ b → stepKept s d l ws t out e ≡ record
+    go : (b : Bool) → lentTooShort s l out ≡ b → stepKept s d l ws t out e ≡ record
         { timed = x; area = areaAfter (siteIn s) l e; tally = cond (isEnd e) (tallyAt (x .site) t) t }
     go true q = never (sym (sym (ap isDone (hit _ _ (keptAnswer k ws e) q)) ∙ h))
     go false q =
@@ -69,29 +69,30 @@ step-kept s d l ws t out e h = go (tooFew s l out) refl
         })
 
 -- a step of the site of w
-pub record Follows (w : TimedWorld) (s : Step) : Type 0 where
+pub record Follows (w : TimedState) (s : SiteStep) : Type 0 where
   pub before : s .before ≡ w .timed .site
   pub behind : s .behind ≡ afterCall w (s .call) .timed .site
   pub done : isDone (timedAnswer (w .timed) (w .area) (s .call .windows) (s .call .event)) ≡ true
   pub tally : s .left ≡ cond (isEnd (s .call .event)) (tallyAt (s .behind) (s .lent)) (s .lent)
 
 -- a list of them
-unfoldable pub Along : TimedWorld → List Step → Type 0
+unfoldable pub Along : TimedState → List SiteStep → Type 0
 Along w [] = Unit {0}
 Along w (s ∷ ss) = Follows w s × Along (afterCall w (s .call)) ss
 
-pub along-append : (w : TimedWorld) (xs ys : List Step) → Along w xs → Along (runCalls w (callsIn xs)) ys → Along w (xs ++ ys)
+pub along-append : (w : TimedState) (xs ys : List SiteStep) → Along w xs → Along (runCalls w (callsIn xs)) ys → Along w (xs ++ ys)
 unfolding Along runCalls
 along-append w [] ys a b = b
 along-append w (x ∷ xs) ys a b = (a .0, along-append (afterCall w (x .call)) xs ys (a .1) b)
 
-pub steps-append : (w : TimedWorld) (xs ys : List Step) → runCalls w (callsIn (xs ++ ys)) ≡ runCalls (runCalls w (callsIn xs)) (callsIn ys)
+pub steps-append : (w : TimedState) (xs ys : List SiteStep) → runCalls w (callsIn (xs ++ ys))
+    ≡ runCalls (runCalls w (callsIn xs)) (callsIn ys)
 unfolding runCalls
 steps-append w [] ys = refl
 steps-append w (x ∷ xs) ys = steps-append (afterCall w (x .call)) xs ys
 
 -- the past of the steps is that of their calls
-pub along-past : (y : Past) (w : TimedWorld) (ss : List Step) → Along w ss → pastBy y ss ≡ traceCalls y w (callsIn ss)
+pub along-past : (y : Past) (w : TimedState) (ss : List SiteStep) → Along w ss → pastBy y ss ≡ traceCalls y w (callsIn ss)
 unfolding traceCalls pastBy Along pastAfterCall
 along-past y w [] a = refl
 along-past y w (s ∷ ss) a =
@@ -156,7 +157,7 @@ record Keeps (y : Past) (l : List Site) (t : Tally) : Type 0 where
   epochs : Goes y t
   sums : Sums l t
 
-module _ (y : Past) (l : List Site) (w : TimedWorld) (s : Step) (F : Follows w s) (K : Keeps y l (s .lent)) where
+module _ (y : Past) (l : List Site) (w : TimedState) (s : SiteStep) (F : Follows w s) (K : Keeps y l (s .lent)) where
   abbrev e : Event
   e = s .call .event
 
@@ -166,7 +167,7 @@ module _ (y : Past) (l : List Site) (w : TimedWorld) (s : Step) (F : Follows w s
   abbrev g : Site
   g = givenBefore (w .timed) ws e
 
-  abbrev v : World
+  abbrev v : RunState
   v = record { site = g; area = w .area }
 
   done : isDone (answerOf g (w .area) e) ≡ true
@@ -208,7 +209,7 @@ module _ (y : Past) (l : List Site) (w : TimedWorld) (s : Step) (F : Follows w s
             (sums-step l v (s .lent) e (K .ok) (K .sums)));
       }
 
-keeps-all : (y : Past) (l : List Site) (t : Tally) (w : TimedWorld) (ss : List Step) → Along w ss → Threaded t ss → Keeps y l t
+keeps-all : (y : Past) (l : List Site) (t : Tally) (w : TimedState) (ss : List SiteStep) → Along w ss → Threaded t ss → Keeps y l t
     → Keeps (pastBy y ss) (l ++ begunBy ss) (tallyBy t ss)
 unfolding Along Threaded pastBy begunBy tallyBy
 keeps-all y l t w [] a c k = subst (λ (x : List Site). Keeps y x t) (sym (append-nil l)) k
@@ -220,15 +221,15 @@ keeps-all y l t w (s ∷ ss) a c k =
     (keeps y l w s (a .0) (subst (Keeps y l) (sym (c .0)) k)))
 
 -- from a load that left the site `start`, of which the tally has counted the first epoch
-pub accounted : (start : Site) → Sums (start ∷ []) first → (w : TimedWorld) (ss : List Step) → Along w ss → Threaded first ss
+pub accounted : (start : Site) → Sums (start ∷ []) firstTally → (w : TimedState) (ss : List SiteStep) → Along w ss → Threaded firstTally ss
     → Accounted start ss
 accounted start S w ss a c =
-    let k = keeps-all (noPast start) (start ∷ []) first w ss a c (record { ok = first-valid; epochs = refl; sums = S }) in
+    let k = keeps-all (noPast start) (start ∷ []) firstTally w ss a c (record { ok = first-valid; epochs = refl; sums = S }) in
     record {
       valid = k .ok;
-      answers = λ s area e. same-answer s area (tallyBy first ss) (k .ok) e;
+      answers = λ s area e. same-answer s area (tallyBy firstTally ss) (k .ok) e;
       epochs = k .epochs;
       slots = k .sums .slots;
       held = k .sums .held;
-      total = valid (tallyBy first ss) (k .ok) .total;
+      total = valid (tallyBy firstTally ss) (k .ok) .total;
     }

@@ -12,21 +12,21 @@ use Rattle.site.specs.Load.{rowOk, tableOk, loadAnswer}
 use Rattle.node.specs.declared.Config.{Config}
 use Rattle.windows.specs.Windows.{listOk}
 use Rattle.machine.specs.hours.Hours.{timedLoadAnswer}
-use Rattle.tally.specs.Counting.{first}
+use Rattle.tally.specs.Counting.{firstTally}
 use Rattle.sites.specs.one.Calls.{tableFrom}
 use Rattle.ledger.specs.Ledger.{Made}
 use Rattle.ledger.proofs.Witness.{Met, met}
 
-abbrev lone : Config
-lone = record { nodes = 1; slots = 1; rounds = 1; «min_heard» = 1; split = 0 }
+abbrev oneSite : Config
+oneSite = record { nodes = 1; slots = 1; rounds = 1; «min_heard» = 1; split = 0 }
 
-loads : timedLoadAnswer lone (tableFrom (1 ∷ 1 ∷ 1 ∷ [])) 1 [] ≡ Done
+loads : timedLoadAnswer oneSite (tableFrom (1 ∷ 1 ∷ 1 ∷ [])) 1 [] ≡ Done
 unfolding timedLoadAnswer loadAnswer tableOk rowOk startAnswer configOk flagsOk allBelow listOk tableFrom tab
 loads = refl
 
 -- three numbers without windows and reports
 abbrev call : ℕ → ℕ → ℕ → Made
-call e j p = record { event = e; node = j; with = p; windows = []; tally = first; reports = [] }
+call e j p = record { event = e; node = j; with = p; windows = []; tally = firstTally; reports = [] }
 
-pub example : (area : List ℕ) → Met lone (1 ∷ 1 ∷ 1 ∷ []) 1 [] area (call 99 0 0 ∷ call 3 0 0 ∷ call 5 0 0 ∷ [])
-example area = met lone (1 ∷ 1 ∷ 1 ∷ []) 1 [] area (call 99 0 0 ∷ call 3 0 0 ∷ call 5 0 0 ∷ []) refl loads
+pub example : (area : List ℕ) → Met oneSite (1 ∷ 1 ∷ 1 ∷ []) 1 [] area (call 99 0 0 ∷ call 3 0 0 ∷ call 5 0 0 ∷ [])
+example area = met oneSite (1 ∷ 1 ∷ 1 ∷ []) 1 [] area (call 99 0 0 ∷ call 3 0 0 ∷ call 5 0 0 ∷ []) refl loads

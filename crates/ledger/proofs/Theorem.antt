@@ -22,11 +22,11 @@ use Rattle.traces.specs.Past.{Past, noPast}
 use Rattle.windows.specs.declared.Window.{Window}
 use Rattle.machine.specs.Layout.{Store}
 use Rattle.machine.specs.hours.Hours.{givenTable, timedLoadAnswer}
-use Rattle.machine.specs.hours.Calls.{Call, TimedWorld, runCalls}
+use Rattle.machine.specs.hours.Calls.{Call, TimedState, runCalls}
 use Rattle.machine.proofs.hours.Laws.{loaded-site}
 use Rattle.agreement.specs.daily.Daily.{beginBy, eventsOfAll, traceCalls}
 use Rattle.agreement.proofs.daily.Theorem.{plainOf}
-use Rattle.tally.specs.Counting.{first}
+use Rattle.tally.specs.Counting.{firstTally}
 use Rattle.tally.specs.Ends.{tallyAt}
 use Rattle.tally.specs.declared.Tally.{Tally}
 use Rattle.agreement.proofs.accounts.Slots.{Sums, sums-loaded}
@@ -36,41 +36,42 @@ use Rattle.lifted.specs.Lifted.{Claim, Everywhere, Agreed, SendsAbove, Heirs, F
 use Rattle.lifted.specs.Lifted as claims
 use Rattle.lifted.proofs.Theorem.{lifts, lifted, calls-append}
 use Rattle.machine.specs.turn.Kept.{Kept}
-use Rattle.machine.specs.turn.Stored.{stepAnswer, isAccepted, stepKept}
+use Rattle.machine.specs.turn.Stored.{stepAnswer, stepAccepted, stepKept}
 use Rattle.machine.proofs.turn.Laws.{kept-refused, step-accepts}
 use Rattle.script.specs.declared.Parsed.{Parsed}
 use Rattle.script.specs.declared.Parsed.the-variants.{Malformed, Good}
-use Rattle.sites.specs.one.Memory.{lacks, dayIn, keptOf}
-use Rattle.sites.specs.one.Calls.{tableFrom, loadingOf, timedAfterLoad, eventAnswer, keptAfterEvent}
-use Rattle.ledger.specs.Lists.{Did, CalledAll, leftBy, Step, stepOf, stepsBy, callsIn, Threaded, ClaimsOnce, Accounted}
-use Rattle.ledger.specs.Ledger.{Memory, storeOf, standsFor, worldIn, siteIn, Made, parsed, Called, stepFor, stepsOf, pastIn, Begun}
+use Rattle.sites.specs.one.Memory.{memoryTooShort, dayIn, keptOf}
+use Rattle.sites.specs.one.Calls.{tableFrom, loadingOf, timedAfterLoad, siteEventAnswer, keptAfterEvent}
+use Rattle.ledger.specs.Lists.{Did, CalledAll, leftBy, SiteStep, stepOf, stepsBy, callsIn, Threaded, ClaimsOnce, Accounted}
+use Rattle.ledger.specs.Ledger.{SiteMemory, storeOf, standsFor, runStateIn, siteInMemory, Made, parsed, Called, stepFor, stepsOf}
+use Rattle.ledger.specs.Ledger.{pastIn, Begun}
 use Rattle.ledger.specs.Ledger.{InMemory, Ledger}
 use Rattle.ledger.proofs.Along.{step-kept, Along, along-append, steps-append, along-past, accounted}
 
 -- the site with its day, and its area, of what memory stands for with a tally
-abbrev placed : Kept → TimedWorld
+abbrev placed : Kept → TimedState
 placed k = record { timed = k .timed; area = k .area }
 
 -- what one call makes
-record One (w v : TimedWorld) (ss : List Step) : Type 0 where
+record One (w v : TimedState) (ss : List SiteStep) : Type 0 where
   run : v ≡ runCalls w (callsIn ss)
   along : Along w ss
 
-none : {w v : TimedWorld} → v ≡ w → One w v []
+none : {w v : TimedState} → v ≡ w → One w v []
 unfolding runCalls Along
 none e = record { run = e; along = tt }
 
-no-steps : (b : Bool) → _≡_ {A = List Step} [] (cond b [] [])
+no-steps : (b : Bool) → _≡_ {A = List SiteStep} [] (cond b [] [])
 no-steps true = refl
 no-steps false = refl
 
 -- one call
-module _ (m : Memory) (ws : List Window) (t : Tally) (out : List ℕ) (n : ℕ) (u : Tally) (l : Memory) where
+module _ (m : SiteMemory) (ws : List Window) (t : Tally) (out : List ℕ) (n : ℕ) (u : Tally) (l : SiteMemory) where
   abbrev s : Store
   s = storeOf m
 
   -- its answer is A, and it leaves k
-  refused : (A : Answer) (k : Kept) (ss : List Step) → n ≡ number A → keptOf (storeOf l) (l .area) u ≡ k → isDone A ≡ false
+  refused : (A : Answer) (k : Kept) (ss : List SiteStep) → n ≡ number A → keptOf (storeOf l) (l .area) u ≡ k → isDone A ≡ false
       → k ≡ keptOf s (m .area) t
       → One (standsFor m) (standsFor l) (cond (eqb n 0) ss [])
   refused A k ss a q h e =
@@ -79,12 +80,12 @@ module _ (m : Memory) (ws : List Window) (t : Tally) (out : List ℕ) (n : ℕ) 
 
   accepted : (e : Event) → n ≡ number (stepAnswer s (dayIn (m .words)) (m .area) ws t out e)
       → keptOf (storeOf l) (l .area) u ≡ stepKept s (dayIn (m .words)) (m .area) ws t out e
-      → isAccepted s (dayIn (m .words)) (m .area) ws t out e ≡ true
-      → One (standsFor m) (standsFor l) (cond (eqb n 0) (stepOf (Good e) ws (siteIn m) (siteIn l) t u) [])
+      → stepAccepted s (dayIn (m .words)) (m .area) ws t out e ≡ true
+      → One (standsFor m) (standsFor l) (cond (eqb n 0) (stepOf (Good e) ws (siteInMemory m) (siteInMemory l) t u) [])
   unfolding runCalls Along
   accepted e a q h =
       let k = q ∙ step-kept s (dayIn (m .words)) (m .area) ws t out e h in
-      subst (One (standsFor m) (standsFor l)) (sym (hit (eqb n 0) (stepOf (Good e) ws (siteIn m) (siteIn l) t u) []
+      subst (One (standsFor m) (standsFor l)) (sym (hit (eqb n 0) (stepOf (Good e) ws (siteInMemory m) (siteInMemory l) t u) []
       (ap (λ (x : ℕ). eqb x 0) a ∙ h)))
       (record {
         run = ap placed k;
@@ -101,32 +102,34 @@ module _ (m : Memory) (ws : List Window) (t : Tally) (out : List ℕ) (n : ℕ) 
 
   an-event : (e : Event) → n ≡ number (stepAnswer s (dayIn (m .words)) (m .area) ws t out e)
       → keptOf (storeOf l) (l .area) u ≡ stepKept s (dayIn (m .words)) (m .area) ws t out e
-      → One (standsFor m) (standsFor l) (cond (eqb n 0) (stepOf (Good e) ws (siteIn m) (siteIn l) t u) [])
+      → One (standsFor m) (standsFor l) (cond (eqb n 0) (stepOf (Good e) ws (siteInMemory m) (siteInMemory l) t u) [])
   an-event e a q =
       ⊎-elim (accepted e a q)
       (λ h. refused (stepAnswer s (dayIn (m .words)) (m .area) ws t out e) _ _ a q h
       (kept-refused s (dayIn (m .words)) (m .area) ws t out e h))
-      (met? (isAccepted s (dayIn (m .words)) (m .area) ws t out e))
+      (met? (stepAccepted s (dayIn (m .words)) (m .area) ws t out e))
 
-  any : (p : Parsed) → n ≡ number (eventAnswer s (m .area) ws t out p)
+  any : (p : Parsed) → n ≡ number (siteEventAnswer s (m .area) ws t out p)
       → keptOf (storeOf l) (l .area) u ≡ keptAfterEvent s (m .area) ws t out p
-      → One (standsFor m) (standsFor l) (cond (eqb n 0) (stepOf p ws (siteIn m) (siteIn l) t u) [])
-  unfolding eventAnswer keptAfterEvent
+      → One (standsFor m) (standsFor l) (cond (eqb n 0) (stepOf p ws (siteInMemory m) (siteInMemory l) t u) [])
+  unfolding siteEventAnswer keptAfterEvent
   any Malformed a q =
-      let z : standsFor l ≡ standsFor m = ap placed (q ∙ read-same (λ (k : Kept). k) (lacks s) _ _ _ refl refl) in
+      let z : standsFor l ≡ standsFor m = ap placed (q ∙ read-same (λ (k : Kept). k) (memoryTooShort s) _ _ _ refl refl) in
       subst (One (standsFor m) (standsFor l)) (no-steps (eqb n 0)) (none z)
   any (Good e) a q =
       ⊎-elim
       (λ h. refused NoRoom _ _ (a ∙ ap number (hit _ _ _ h)) q refl (hit _ _ _ h))
       (λ h. an-event e (a ∙ ap number (skip _ _ _ _ h refl)) (q ∙ skip _ _ _ _ h refl))
-      (met? (lacks s))
+      (met? (memoryTooShort s))
 
-one : (m : Memory) (d : Did Made Memory) → Called m d → One (standsFor m) (standsFor (d .left)) (cond (eqb (d .answer) 0) (stepFor m d) [])
+one : (m : SiteMemory) (d : Did Made SiteMemory) → Called m d
+    → One (standsFor m) (standsFor (d .left)) (cond (eqb (d .answer) 0) (stepFor m d) [])
 one m d r = any m (d .call .windows) (d .call .tally) (d .call .reports) (d .answer) (d .tally) (d .left) (parsed (d .call)) (r .answer)
     (r .kept)
 
 -- a list of calls
-all : (m : Memory) (ds : List (Did Made Memory)) → CalledAll Called m ds → One (standsFor m) (standsFor (leftBy m ds)) (stepsOf m ds)
+all : (m : SiteMemory) (ds : List (Did Made SiteMemory)) → CalledAll Called m ds
+    → One (standsFor m) (standsFor (leftBy m ds)) (stepsOf m ds)
 unfolding CalledAll leftBy stepsBy
 all m [] r = none refl
 all m (d ∷ ds) r =
@@ -134,26 +137,26 @@ all m (d ∷ ds) r =
     let y = all (d .left) ds (r .1) in
     let ss = cond (eqb (d .answer) 0) (stepFor m d) [] in
     record {
-      run = y .run ∙ ap (λ (w : TimedWorld). runCalls w (callsIn (stepsOf (d .left) ds))) (x .run)
+      run = y .run ∙ ap (λ (w : TimedState). runCalls w (callsIn (stepsOf (d .left) ds))) (x .run)
           ∙ sym (steps-append (standsFor m) ss (stepsOf (d .left) ds));
       along = along-append (standsFor m) ss (stepsOf (d .left) ds) (x .along)
-          (subst (λ (w : TimedWorld). Along w (stepsOf (d .left) ds)) (x .run) (y .along));
+          (subst (λ (w : TimedState). Along w (stepsOf (d .left) ds)) (x .run) (y .along));
     }
 
 -- From an accepted load on
 
-module _ (f : Config) (rows : List ℕ) (D : ℕ) (ws : List Window) (m : Memory) (b : Begun f rows D ws m) where
+module _ (f : Config) (rows : List ℕ) (D : ℕ) (ws : List Window) (m : SiteMemory) (b : Begun f rows D ws m) where
   abbrev t : Table
   t = tableFrom rows
 
   loads : timedLoadAnswer f t D ws ≡ Done
   unfolding loadingOf
-  loads = go (lacks (b .before)) refl (eqb (length rows) (3 * f .nodes)) refl
+  loads = go (memoryTooShort (b .before)) refl (eqb (length rows) (3 * f .nodes)) refl
     where
       done : isDone (loadingOf (b .before) f rows D ws) ≡ true
       done = ap (λ (n : ℕ). eqb n 0) (b .answer)
 
-      go : (x : Bool) → lacks (b .before) ≡ x → (y : Bool) → eqb (length rows) (3 * f .nodes) ≡ y → timedLoadAnswer f t D ws ≡ Done
+      go : (x : Bool) → memoryTooShort (b .before) ≡ x → (y : Bool) → eqb (length rows) (3 * f .nodes) ≡ y → timedLoadAnswer f t D ws ≡ Done
       go true p y q = never (sym (ap isDone (sym (hit _ NoRoom _ p)) ∙ done))
       go false p true q = done-is _ (ap isDone (sym (skip _ NoRoom _ _ p (hit _ _ OutOfRange q))) ∙ done)
       go false p false q = never (sym (ap isDone (sym (skip _ NoRoom _ _ p (skip _ (timedLoadAnswer f t D ws) OutOfRange _ q refl)))
@@ -163,7 +166,7 @@ module _ (f : Config) (rows : List ℕ) (D : ℕ) (ws : List Window) (m : Memory
   unfolding timedAfterLoad
   begins = λ i. record { timed = (b .site ∙ hit _ _ _ (ap (λ (n : ℕ). eqb n 0) (b .answer))) i; area = m .area }
 
-  module _ (ds : List (Did Made Memory)) (r : CalledAll Called m ds) where
+  module _ (ds : List (Did Made SiteMemory)) (r : CalledAll Called m ds) where
     abbrev cs : List Call
     cs = callsIn (stepsOf m ds)
 
@@ -171,24 +174,24 @@ module _ (f : Config) (rows : List ℕ) (D : ℕ) (ws : List Window) (m : Memory
     went = all m ds r
 
     final : standsFor (leftBy m ds) ≡ runCalls (beginBy f t D ws (m .area)) cs
-    final = went .run ∙ ap (λ (w : TimedWorld). runCalls w cs) begins
+    final = went .run ∙ ap (λ (w : TimedState). runCalls w cs) begins
 
     past : pastIn m ds ≡ claims.pastBy f t D ws (m .area) cs
-    past = along-past (noPast (siteIn m)) (standsFor m) (stepsOf m ds) (went .along)
-        ∙ ap (λ (w : TimedWorld). traceCalls (noPast (w .timed .site)) w cs) begins
+    past = along-past (noPast (siteInMemory m)) (standsFor m) (stepsOf m ds) (went .along)
+        ∙ ap (λ (w : TimedState). traceCalls (noPast (w .timed .site)) w cs) begins
 
-    in-memory : (P : Claim) → Everywhere P → P f (worldIn (leftBy m ds)) (pastIn m ds)
+    in-memory : (P : Claim) → Everywhere P → P f (runStateIn (leftBy m ds)) (pastIn m ds)
     in-memory P A =
-        subst (P f (worldIn (leftBy m ds))) (sym past)
-        (subst (λ (w : TimedWorld). P f (plainOf w) (claims.pastBy f t D ws (m .area) cs)) (sym final)
+        subst (P f (runStateIn (leftBy m ds))) (sym past)
+        (subst (λ (w : TimedState). P f (plainOf w) (claims.pastBy f t D ws (m .area) cs)) (sym final)
         (A .calls f t D ws loads (m .area) cs))
 
     -- the calls of an epoch
-    module _ (es : List (Did Made Memory)) (q : CalledAll Called (leftBy m ds) es) (body : List Event) (v i j : ℕ) where
+    module _ (es : List (Did Made SiteMemory)) (q : CalledAll Called (leftBy m ds) es) (body : List Event) (v i j : ℕ) where
       abbrev next : List Call
       next = callsIn (stepsOf (leftBy m ds) es)
 
-      abbrev Epoch : TimedWorld → Past → Type 0
+      abbrev Epoch : TimedState → Past → Type 0
       Epoch w y =
           eventsOfAll w next ≡ whole body → Ready y (w .timed .site) v → Calm (liveSet (w .timed .site)) (plainOf w) body
           → liveIn (w .timed .site) i ≡ true → liveIn (w .timed .site) j ≡ true
@@ -196,21 +199,22 @@ module _ (f : Config) (rows : List ℕ) (D : ℕ) (ws : List Window) (m : Memory
 
       by-calls : Epoch (runCalls (beginBy f t D ws (m .area)) cs) (claims.pastBy f t D ws (m .area) cs)
       by-calls e R C li lj =
-          subst (λ (w : TimedWorld). Risen (runCalls (beginBy f t D ws (m .area)) cs .timed .site) (w .timed .site) v i j)
+          subst (λ (w : TimedState). Risen (runCalls (beginBy f t D ws (m .area)) cs .timed .site) (w .timed .site) v i j)
           (calls-append (beginBy f t D ws (m .area)) cs next)
           (lifted .calm-calls f t D ws loads (m .area) cs next body v e R C i j li lj)
 
       epoch : Epoch (standsFor (leftBy m ds)) (pastIn m ds)
       epoch = subst (Epoch (standsFor (leftBy m ds))) (sym past)
-          (subst (λ (w : TimedWorld). Epoch w (claims.pastBy f t D ws (m .area) cs)) (sym final) by-calls)
+          (subst (λ (w : TimedState). Epoch w (claims.pastBy f t D ws (m .area) cs)) (sym final) by-calls)
 
-      ends : siteIn (leftBy (leftBy m ds) es) ≡ runCalls (standsFor (leftBy m ds)) next .timed .site
-      ends = ap (λ (w : TimedWorld). w .timed .site) (all (leftBy m ds) es q .run)
+      ends : siteInMemory (leftBy (leftBy m ds) es) ≡ runCalls (standsFor (leftBy m ds)) next .timed .site
+      ends = ap (λ (w : TimedState). w .timed .site) (all (leftBy m ds) es q .run)
 
-    summed : Threaded first (stepsOf m ds) → Accounted (siteIn m) (stepsOf m ds)
+    summed : Threaded firstTally (stepsOf m ds) → Accounted (siteInMemory m) (stepsOf m ds)
     summed c =
-        let e : siteIn m ≡ loadedSite f (givenTable ws t) = ap (λ (w : TimedWorld). w .timed .site) begins ∙ loaded-site f t D ws loads in
-        accounted (siteIn m) (subst (λ (s : Site). Sums (s ∷ []) first) (sym e) (sums-loaded f (givenTable ws t))) (standsFor m)
+        let e : siteInMemory m ≡ loadedSite f (givenTable ws t) = ap (λ (w : TimedState). w .timed .site) begins
+        ∙ loaded-site f t D ws loads in
+        accounted (siteInMemory m) (subst (λ (s : Site). Sums (s ∷ []) firstTally) (sym e) (sums-loaded f (givenTable ws t))) (standsFor m)
         (stepsOf m ds) (went .along) c
 
 everywhere : (P : Claim) → Everywhere P → InMemory P
@@ -234,7 +238,7 @@ ledger =
       remains = everywhere Remains (lifted .remains);
       settles = everywhere Settles (lifted .settles);
       calm = λ f rows D ws m ds es body v b r q e R C i j li lj.
-          subst (λ (s : Site). Risen (siteIn (leftBy m ds)) s v i j) (sym (ends f rows D ws m b ds r es q body v i j))
+          subst (λ (s : Site). Risen (siteInMemory (leftBy m ds)) s v i j) (sym (ends f rows D ws m b ds r es q body v i j))
           (epoch f rows D ws m b ds r es q body v i j e R C li lj);
       claims = everywhere ClaimsOnce claims-once;
       accounts = λ f rows D ws m ds b r c. summed f rows D ws m b ds r c;

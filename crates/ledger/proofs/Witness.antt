@@ -37,9 +37,10 @@ use Rattle.site.specs.declared.Table.{Table}
 use Rattle.site.proofs.Accepted.{answered, take-accepted, crash-accepted, restart-accepted}
 use Rattle.windows.specs.Windows.{listOk, dueAt}
 use Rattle.windows.specs.declared.Window.{Window}
-use Rattle.machine.specs.Layout.{Store, store, atConfig, wordsSize, bytesSize, tooShort, rowAt, roomAt, schedulesAt, atPlace, atSent}
+use Rattle.machine.specs.Layout.{Store, store, atConfig, wordsSize, bytesSize, tooShort, nodeWordsAt, nodeBytesAt, schedulesAt, atPlace}
+use Rattle.machine.specs.Layout.{atSent}
 use Rattle.machine.specs.Layout.{nodeIn, storedIn, siteIn}
-use Rattle.machine.specs.Layout.{rowOf, frontOf}
+use Rattle.machine.specs.Layout.{nodeWords, storedFront}
 use Rattle.machine.specs.Loading.{figured, loadedAt, filledStore, memberRead}
 use Rattle.machine.specs.Written.{writtenFront, writtenMoved, handedOn, takenAt, each, closes, closeChange, ends, endChange, nodesIn}
 use Rattle.machine.specs.Written.{closedStore, endedStore}
@@ -57,16 +58,16 @@ use Rattle.machine.proofs.hours.Laws.{loaded-site, done-after}
 use Rattle.machine.proofs.hours.Stored.{Long, given-store}
 use Rattle.tally.specs.Ends.{talliedAnswer}
 use Rattle.tally.specs.declared.Tally.{Tally}
-use Rattle.machine.specs.turn.Kept.{Kept, firstOf, keptAnswer}
-use Rattle.machine.specs.turn.Stored.{tooFew, noPlace, stepAnswer, isAccepted, stepStore, stepKept}
+use Rattle.machine.specs.turn.Kept.{Kept, firstRefusal, keptAnswer}
+use Rattle.machine.specs.turn.Stored.{lentTooShort, reportTooShort, stepAnswer, stepAccepted, stepStore, stepKept}
 use Rattle.machine.proofs.turn.Laws.{first-refuses, step-accepts, kept-refused}
 use Rattle.script.specs.declared.Parsed.{Parsed}
 use Rattle.script.specs.declared.Parsed.the-variants.{Malformed, Good}
-use Rattle.sites.specs.one.Memory.{atDay, atEpoch, memorySize, lacks, dayIn, withDay, timedOf, keptOf}
-use Rattle.sites.specs.one.Calls.{tableFrom, loadingOf, timedAfterLoad, eventAnswer, keptAfterEvent, afterEvent}
+use Rattle.sites.specs.one.Memory.{atDay, atEpoch, memorySize, memoryTooShort, dayIn, withDay, timedOf, keptOf}
+use Rattle.sites.specs.one.Calls.{tableFrom, loadingOf, timedAfterLoad, siteEventAnswer, keptAfterEvent, afterEvent}
 use Rattle.sites.proofs.one.Days.{timed-day}
 use Rattle.ledger.specs.Lists.{Did, CalledAll}
-use Rattle.ledger.specs.Ledger.{Memory, storeOf, Made, parsed, Called, Begun}
+use Rattle.ledger.specs.Ledger.{SiteMemory, storeOf, Made, parsed, Called, Begun}
 use Rattle.ledger.proofs.Along.{step-kept}
 
 -- What is written makes no words and no bytes fewer
@@ -88,14 +89,17 @@ long-then : {s t : Store} → Grown s t → Long s → Long t
 long-then g h = (omega (arith, g .words, h .0), omega (arith, g .bytes, h .1))
 
 front : (s : Store) (i : ℕ) (m : Member) → Grown s (writtenFront s i m)
-front s i m = record { words = grows (s .words) (rowOf (m .node)) (rowAt i); bytes = grows (s .bytes) (frontOf m) (roomAt i) }
+front s i m = record {
+  words = grows (s .words) (nodeWords (m .node)) (nodeWordsAt i);
+  bytes = grows (s .bytes) (storedFront m) (nodeBytesAt i);
+}
 
 put : (s : Store) → Long s → (i : ℕ) → i < 32 → (m : Member) (v : Move) → Grown s (writtenMoved s i m v)
 put s L i k m v =
-    let l = written (s .bytes) (roomAt i) (frontOf m) in
-    let a : length (s .bytes) ≤ length l = grows (s .bytes) (frontOf m) (roomAt i) in
+    let l = written (s .bytes) (nodeBytesAt i) (storedFront m) in
+    let a : length (s .bytes) ≤ length l = grows (s .bytes) (storedFront m) (nodeBytesAt i) in
     let b = moved-apart l (schedulesAt i) (omega (arith, a, k, L .1)) v (coreOf (nodeIn s i)) .long in
-    record { words = grows (s .words) (rowOf (m .node)) (rowAt i); bytes = omega (arith, a, b) }
+    record { words = grows (s .words) (nodeWords (m .node)) (nodeWordsAt i); bytes = omega (arith, a, b) }
 
 one-each : (test : Member → Bool) (step : Member → Member) (change : Member → Move) (i : ℕ) (s : Store) → i < 32 → Long s
     → Grown s (each test step change i s)
@@ -174,7 +178,7 @@ begun s d l ws e L =
 
 -- One accepted event: what is written stands for the site behind it
 module _ (s : Store) (d : Day) (l : List ℕ) (ws : List Window) (t : Tally) (out : List ℕ) (e : Event)
-    (h : isAccepted s d l ws t out e ≡ true) where
+    (h : stepAccepted s d l ws t out e ≡ true) where
   -- what an accepted event says
   record Fits : Type 0 where
     words : wordsSize ≤ length (s .words)
@@ -184,24 +188,25 @@ module _ (s : Store) (d : Day) (l : List ℕ) (ws : List Window) (t : Tally) (ou
 
   fits : Fits
   unfolding stepAnswer keptAnswer
-  fits = go (tooFew s l out) refl (listOk (siteIn s .config .nodes) (d .length) ws) refl
+  fits = go (lentTooShort s l out) refl (listOk (siteIn s .config .nodes) (d .length) ws) refl
     where
       k : Answer
       k = talliedAnswer (siteIn s) l t e
 
-      go : (x : Bool) → tooFew s l out ≡ x → (y : Bool) → listOk (siteIn s .config .nodes) (d .length) ws ≡ y → Fits
-      go true p y q = never (sym (sym (ap isDone (hit (tooFew s l out) NoRoom _ p)) ∙ h))
+      go : (x : Bool) → lentTooShort s l out ≡ x → (y : Bool) → listOk (siteIn s .config .nodes) (d .length) ws ≡ y → Fits
+      go true p y q = never (sym (sym (ap isDone (hit (lentTooShort s l out) NoRoom _ p)) ∙ h))
       go false p true q =
-          let a = or-neither (tooShort s) (ltb (length l) areaSize || noPlace out) p in
+          let a = or-neither (tooShort s) (ltb (length l) areaSize || reportTooShort out) p in
           let b = or-neither (ltb (length (s .words)) wordsSize) (ltb (length (s .bytes)) bytesSize) (a .0) in
           record {
             words = ltb-false _ _ (b .0);
             bytes = ltb-false _ _ (b .1);
-            room = ltb-false _ _ (or-neither (ltb (length l) areaSize) (noPlace out) (a .1) .0);
+            room = ltb-false _ _ (or-neither (ltb (length l) areaSize) (reportTooShort out) (a .1) .0);
             listed = q;
           }
       go false p false q =
-          never (sym (sym (ap isDone (skip (tooFew s l out) NoRoom _ _ p refl ∙ ap (λ (b : Bool). firstOf k (cond b Done BadWindows)) q))
+          never (sym (sym (ap isDone
+          (skip (lentTooShort s l out) NoRoom _ _ p refl ∙ ap (λ (b : Bool). firstRefusal k (cond b Done BadWindows)) q))
           ∙ h) ∙ first-refuses k BadWindows refl)
 
   abbrev g : Store
@@ -240,18 +245,18 @@ module _ (s : Store) (d : Day) (l : List ℕ) (ws : List Window) (t : Tally) (ou
 -- Every call can be made
 
 -- long enough for a site
-pub record Enough (m : Memory) : Type 0 where
+pub record Enough (m : SiteMemory) : Type 0 where
   pub words : memorySize ≤ length (m .words)
   pub bytes : bytesSize ≤ length (m .bytes)
 
 -- a call with what it leaves
-pub record Makes (m : Memory) (c : Made) : Type 0 where
-  pub did : Did Made Memory
+pub record Makes (m : SiteMemory) (c : Made) : Type 0 where
+  pub did : Did Made SiteMemory
   pub call : did .call ≡ c
   pub called : Called m did
   pub enough : Enough (did .left)
 
-module _ (m : Memory) (c : Made) (E : Enough m) where
+module _ (m : SiteMemory) (c : Made) (E : Enough m) where
   abbrev s : Store
   s = storeOf m
 
@@ -264,7 +269,7 @@ module _ (m : Memory) (c : Made) (E : Enough m) where
   abbrev t : Tally
   t = c .tally
 
-  not-lacking : lacks s ≡ false
+  not-lacking : memoryTooShort s ≡ false
   not-lacking = λ i. le-ltb _ _ (E .words) i || le-ltb _ _ (E .bytes) i
 
   record Left (p : Parsed) : Type 0 where
@@ -272,12 +277,12 @@ module _ (m : Memory) (c : Made) (E : Enough m) where
     grown : Grown s (afterEvent s (m .area) ws t (c .reports) p)
 
   left : (p : Parsed) → Left p
-  unfolding afterEvent keptAfterEvent eventAnswer
+  unfolding afterEvent keptAfterEvent siteEventAnswer
   left Malformed =
       record {
-        timed = ap timedOf (read-same (λ (x : Store). x) (isDone (eventAnswer s (m .area) ws t (c .reports) Malformed)) s s s refl refl)
-            ∙ ap (λ (x : Kept). x .timed) (sym (read-same (λ (x : Kept). x) (lacks s) _ _ (keptOf s (m .area) t) refl refl));
-        grown = by-test (Grown s) (isDone (eventAnswer s (m .area) ws t (c .reports) Malformed)) s s (λ _. same s) (λ _. same s);
+        timed = ap timedOf (read-same (λ (x : Store). x) (isDone (siteEventAnswer s (m .area) ws t (c .reports) Malformed)) s s s refl refl)
+            ∙ ap (λ (x : Kept). x .timed) (sym (read-same (λ (x : Kept). x) (memoryTooShort s) _ _ (keptOf s (m .area) t) refl refl));
+        grown = by-test (Grown s) (isDone (siteEventAnswer s (m .area) ws t (c .reports) Malformed)) s s (λ _. same s) (λ _. same s);
       }
   left (Good e) =
       ⊎-elim
@@ -307,13 +312,13 @@ module _ (m : Memory) (c : Made) (E : Enough m) where
             (kept ∙ kept-refused s d (m .area) ws t (c .reports) e (sym (ap isDone a) ∙ h)));
         grown = subst (Grown s) (sym q) (same s);
       })
-      (met? (isDone (eventAnswer s (m .area) ws t (c .reports) (Good e))))
+      (met? (isDone (siteEventAnswer s (m .area) ws t (c .reports) (Good e))))
     where
-      a : eventAnswer s (m .area) ws t (c .reports) (Good e) ≡ stepAnswer s d (m .area) ws t (c .reports) e
-      a = skip (lacks s) NoRoom _ _ not-lacking refl
+      a : siteEventAnswer s (m .area) ws t (c .reports) (Good e) ≡ stepAnswer s d (m .area) ws t (c .reports) e
+      a = skip (memoryTooShort s) NoRoom _ _ not-lacking refl
 
       kept : keptAfterEvent s (m .area) ws t (c .reports) (Good e) ≡ stepKept s d (m .area) ws t (c .reports) e
-      kept = skip (lacks s) (keptOf s (m .area) t) _ _ not-lacking refl
+      kept = skip (memoryTooShort s) (keptOf s (m .area) t) _ _ not-lacking refl
 
   pub makes : Makes m c
   makes =
@@ -323,7 +328,7 @@ module _ (m : Memory) (c : Made) (E : Enough m) where
       record {
         did = record {
           call = c;
-          answer = number (eventAnswer s (m .area) ws t (c .reports) (parsed c));
+          answer = number (siteEventAnswer s (m .area) ws t (c .reports) (parsed c));
           tally = K .tally;
           left = record { words = S .words; bytes = S .bytes; area = K .area };
         };
@@ -333,12 +338,12 @@ module _ (m : Memory) (c : Made) (E : Enough m) where
       }
 
 -- a list of them
-pub record MakesAll (m : Memory) (cs : List Made) : Type 0 where
-  pub dids : List (Did Made Memory)
-  pub calls : map (λ (d : Did Made Memory). d .call) dids ≡ cs
+pub record MakesAll (m : SiteMemory) (cs : List Made) : Type 0 where
+  pub dids : List (Did Made SiteMemory)
+  pub calls : map (λ (d : Did Made SiteMemory). d .call) dids ≡ cs
   pub called : CalledAll Called m dids
 
-pub makes-all : (m : Memory) → Enough m → (cs : List Made) → MakesAll m cs
+pub makes-all : (m : SiteMemory) → Enough m → (cs : List Made) → MakesAll m cs
 unfolding CalledAll
 makes-all m E [] = record { dids = []; calls = refl; called = tt }
 makes-all m E (c ∷ cs) =
@@ -358,7 +363,7 @@ filled s f t L =
     (long-then g L))
 
 pub record Loads (f : Config) (rows : List ℕ) (D : ℕ) (ws : List Window) (area : List ℕ) : Type 0 where
-  pub memory : Memory
+  pub memory : SiteMemory
   pub begun : Begun f rows D ws memory
   pub enough : Enough memory
 
@@ -378,7 +383,7 @@ module _ (f : Config) (rows : List ℕ) (D : ℕ) (ws : List Window) (area : Lis
 
   answer : loadingOf zeros f rows D ws ≡ Done
   unfolding loadingOf
-  answer = skip (lacks zeros) NoRoom _ _ (λ i. le-ltb _ _ words-long i || le-ltb _ _ bytes-long i) (hit _ _ OutOfRange fit ∙ ok)
+  answer = skip (memoryTooShort zeros) NoRoom _ _ (λ i. le-ltb _ _ words-long i || le-ltb _ _ bytes-long i) (hit _ _ OutOfRange fit ∙ ok)
 
   pub memory-loaded : Loads f rows D ws area
   unfolding timedAfterLoad loadedTimed
@@ -412,7 +417,7 @@ module _ (f : Config) (rows : List ℕ) (D : ℕ) (ws : List Window) (area : Lis
 
 -- so for every load that is accepted and every list of calls behind it the premises of the theorem are met
 pub record Met (f : Config) (rows : List ℕ) (D : ℕ) (ws : List Window) (area : List ℕ) (cs : List Made) : Type 0 where
-  pub memory : Memory
+  pub memory : SiteMemory
   pub begun : Begun f rows D ws memory
   pub made : MakesAll memory cs
 

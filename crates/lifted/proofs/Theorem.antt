@@ -8,7 +8,7 @@ use Prim.Native.Nat.{ℕ}
 use lib.ListN.{length}
 use Rattle.node.specs.declared.Answer.the-variants.{Done}
 use Rattle.site.specs.Load.{loadedSite}
-use Rattle.site.specs.Run.{World, after, run}
+use Rattle.site.specs.Run.{RunState, after, run}
 use Rattle.node.specs.declared.Config.{Config}
 use Rattle.site.specs.declared.Table.{Table}
 use Rattle.site.specs.Model.{Site}
@@ -25,20 +25,20 @@ use Rattle.calm.proofs.Theorem.{recovery}
 use Rattle.windows.specs.Windows.{listOk}
 use Rattle.windows.specs.declared.Window.{Window}
 use Rattle.machine.specs.hours.Hours.{givenSite, givenTable, timedLoadAnswer, loadedTimed}
-use Rattle.machine.specs.hours.Calls.{Call, TimedWorld, afterCall, runCalls}
+use Rattle.machine.specs.hours.Calls.{Call, TimedState, afterCall, runCalls}
 use Rattle.machine.proofs.hours.Laws.{loaded-site}
 use Rattle.agreement.specs.daily.Daily.{wantsOf, eventsOfAll, beginBy, finalBy, traceCalls}
 use Rattle.agreement.proofs.daily.Wants.{run-append, trace-append, wants-all, wants-past}
 use Rattle.agreement.proofs.daily.Theorem.{plainOf, same-all, long-loaded, long-run, plain}
 use Rattle.group.specs.Alone.{AsAlone}
 use Rattle.group.proofs.Theorem.{several}
-use Rattle.lifted.specs.Lifted.{Claim, Always, worldBy, pastBy, Everywhere, Lifts, Agreed, Rises, Remains, Settles, Informed}
+use Rattle.lifted.specs.Lifted.{Claim, Always, runStateBy, pastBy, Everywhere, Lifts, Agreed, Rises, Remains, Settles, Informed}
 use Rattle.lifted.specs.Lifted.{Completes}
 use Rattle.lifted.specs.Lifted.{SendsAbove, Heirs, FirstHeirs, Lifted}
 
 -- the moment after a list of calls is the one after its events
 module _ (f : Config) (t : Table) (D : ℕ) (ws : List Window) (h : timedLoadAnswer f t D ws ≡ Done) (area : List ℕ) (cs : List Call) where
-  abbrev w : TimedWorld
+  abbrev w : TimedState
   w = beginBy f t D ws area
 
   abbrev g : Table
@@ -57,30 +57,30 @@ module _ (f : Config) (t : Table) (D : ℕ) (ws : List Window) (h : timedLoadAns
       ≡ traceCalls (noPast (loadedTimed f t D ws .site)) w cs)
   both = same-all (noPast (loadedTimed f t D ws .site)) w cs long
 
-  world-is : worldBy f t D ws area cs ≡ reached f g area es
-  world-is = sym (both .0) ∙ ap (λ (s : Site). run (record { site = s; area = area }) es) site-is
+  state-is : runStateBy f t D ws area cs ≡ reached f g area es
+  state-is = sym (both .0) ∙ ap (λ (s : Site). run (record { site = s; area = area }) es) site-is
 
   past-is : pastBy f t D ws area cs ≡ pastOf f g area es
   past-is = sym (both .1) ∙ ap (λ (s : Site). trace (noPast s) (record { site = s; area = area }) es) site-is
 
-  long-then : length (worldBy f t D ws area cs .site .members) ≡ 32
-  long-then = subst (λ (x : World). length (x .site .members) ≡ 32) (sym world-is) (long-run (begin f g area) es (long-loaded f g))
+  long-then : length (runStateBy f t D ws area cs .site .members) ≡ 32
+  long-then = subst (λ (x : RunState). length (x .site .members) ≡ 32) (sym state-is) (long-run (begin f g area) es (long-loaded f g))
 
   module _ (P : Claim) (A : Always P) where
-    by-calls : P f (worldBy f t D ws area cs) (pastBy f t D ws area cs)
-    by-calls = subst (P f (worldBy f t D ws area cs)) (sym past-is)
-        (subst (λ (x : World). P f x (pastOf f g area es)) (sym world-is) (A f g (plain f t D ws h area cs .loads) area es))
+    by-calls : P f (runStateBy f t D ws area cs) (pastBy f t D ws area cs)
+    by-calls = subst (P f (runStateBy f t D ws area cs)) (sym past-is)
+        (subst (λ (x : RunState). P f x (pastOf f g area es)) (sym state-is) (A f g (plain f t D ws h area cs .loads) area es))
 
     -- the demands given: the events, and then the wants
-    module _ (e : ℕ) (lent : List Window) (ok : listOk (worldBy f t D ws area cs .site .config .nodes) D lent ≡ true)
-        (x : Accepted (worldBy f t D ws area cs) End) where
-      abbrev v : World
-      v = worldBy f t D ws area cs
+    module _ (e : ℕ) (lent : List Window) (ok : listOk (runStateBy f t D ws area cs .site .config .nodes) D lent ≡ true)
+        (x : Accepted (runStateBy f t D ws area cs) End) where
+      abbrev v : RunState
+      v = runStateBy f t D ws area cs
 
       given-is : record { site = givenSite lent e (v .site); area = v .area } ≡ reached f g area (es ++ wantsOf lent e 32)
       given-is =
           sym (wants-all lent e D (v .site) (v .area) long-then (answered (v .site) (v .area) End x .0) ok)
-          ∙ ap (λ (y : World). run y (wantsOf lent e 32)) world-is ∙ sym (run-append (begin f g area) es (wantsOf lent e 32))
+          ∙ ap (λ (y : RunState). run y (wantsOf lent e 32)) state-is ∙ sym (run-append (begin f g area) es (wantsOf lent e 32))
 
       past-stays : pastBy f t D ws area cs ≡ pastOf f g area (es ++ wantsOf lent e 32)
       past-stays =
@@ -90,7 +90,7 @@ module _ (f : Config) (t : Table) (D : ℕ) (ws : List Window) (h : timedLoadAns
       by-given : P f (record { site = givenSite lent e (v .site); area = v .area }) (pastBy f t D ws area cs)
       by-given =
           subst (P f _) (sym past-stays)
-          (subst (λ (y : World). P f y (pastOf f g area (es ++ wantsOf lent e 32))) (sym given-is)
+          (subst (λ (y : RunState). P f y (pastOf f g area (es ++ wantsOf lent e 32))) (sym given-is)
           (A f g (plain f t D ws h area cs .loads) area (es ++ wantsOf lent e 32)))
 
 everywhere : (P : Claim) → Always P → Everywhere P
@@ -111,7 +111,7 @@ agreed : Always Agreed
 agreed f t d area es =
     record {
       agreement = λ u. holds .demand3 f t d u area es .agreement;
-      grounded = λ u. holds .demand3 f t d u area es .grounded;
+      justified = λ u. holds .demand3 f t d u area es .justified;
       unique = λ u. holds .demand3 f t d u area es .unique;
     }
 
@@ -122,7 +122,7 @@ settled f t d area es first second v u R C =
     (λ R′ C′ same i l. recovery .recovers f t d area .settles es first second v u R C R′ C′ same i l)
 
 -- a list of calls in two parts
-pub calls-append : (w : TimedWorld) (cs ds : List Call) → runCalls w (cs ++ ds) ≡ runCalls (runCalls w cs) ds
+pub calls-append : (w : TimedState) (cs ds : List Call) → runCalls w (cs ++ ds) ≡ runCalls (runCalls w cs) ds
 unfolding runCalls
 calls-append w [] ds = refl
 calls-append w (c ∷ cs) ds = calls-append (afterCall w c) cs ds
@@ -131,14 +131,14 @@ calls-append w (c ∷ cs) ds = calls-append (afterCall w c) cs ds
 epoch-is : (f : Config) (t : Table) (D : ℕ) (ws : List Window) → timedLoadAnswer f t D ws ≡ Done
     → (area : List ℕ) (cs ds : List Call) (body : List Event)
     → eventsOfAll (runCalls (beginBy f t D ws area) cs) ds ≡ whole body
-    → epochEnd (worldBy f t D ws area cs) body ≡ finalBy f t D ws area (cs ++ ds)
+    → epochEnd (runStateBy f t D ws area cs) body ≡ finalBy f t D ws area (cs ++ ds)
 unfolding run
 epoch-is f t D ws h area cs ds body e =
     let x = runCalls (beginBy f t D ws area) cs in
-    ap (λ (y : World). y .site)
+    ap (λ (y : RunState). y .site)
     (sym (run-append (plainOf x) body (End ∷ [])) ∙ ap (run (plainOf x)) (sym e)
     ∙ same-all (pastBy f t D ws area cs) x ds (long-then f t D ws h area cs) .0)
-    ∙ ap (λ (y : TimedWorld). y .timed .site) (sym (calls-append (beginBy f t D ws area) cs ds))
+    ∙ ap (λ (y : TimedState). y .timed .site) (sym (calls-append (beginBy f t D ws area) cs ds))
 
 pub lifted : Lifted
 lifted =

@@ -14,31 +14,31 @@ use Rattle.node.specs.declared.Answer.the-variants.{Done}
 use Rattle.site.specs.Answers.{areaSize}
 use Rattle.site.specs.Load.{loadAnswer}
 use Rattle.site.specs.Members.{memberAt, isLive}
-use Rattle.site.specs.Run.{World, run}
+use Rattle.site.specs.Run.{RunState, run}
 use Rattle.node.specs.declared.Config.{Config}
 use Rattle.site.specs.declared.Table.{Table}
 use Rattle.site.specs.declared.Event.{Event}
 use Rattle.site.specs.declared.Event.the-variants.{Close, End}
 use Rattle.traces.specs.Past.{Determination, Past, noPast, trace}
 use Rattle.traces.specs.Reached.{reached, pastOf, Accepted, liveAfter, nodeAfter, EndsEpoch}
-use Rattle.agreement.specs.Demand.{Agreement, Grounded, SameDetermination}
+use Rattle.agreement.specs.Demand.{Agreement, Justified, SameDetermination}
 use Rattle.agreement.specs.Succession.{Heir, FirstHeir}
 use Rattle.consensus.specs.Consensus.{Knows, Consistent}
-use Rattle.calm.specs.Calm.{memberIn, liveIn, liveSet, requestsOf, unwatched, watched, Ready, Calm, epochEnd, whole, Risen, NobodyJoins}
+use Rattle.calm.specs.Calm.{siteMember, liveIn, liveSet, requestsOf, unwatched, watched, Ready, Calm, epochEnd, whole, Risen, NobodyJoins}
 use Rattle.calm.specs.Calm.{SameAsked}
 use Rattle.windows.specs.Windows.{listOk}
 use Rattle.windows.specs.declared.Window.{Window}
 use Rattle.machine.specs.hours.Hours.{givenSite, timedLoadAnswer, loadedTimed}
 use Rattle.machine.specs.hours.Calls.{Call, runCalls}
 use Rattle.agreement.specs.daily.Daily.{beginBy, finalBy, eventsOfAll, traceCalls}
-use Rattle.group.specs.Group.{Taken, vacant, seatOf}
+use Rattle.group.specs.Group.{Taken, vacant, siteSlotOf}
 use Rattle.group.specs.Calls.{GroupCall, LoadSite, answerTo}
 use Rattle.group.specs.Steps.{runGroup}
-use Rattle.group.specs.Alone.{Story, loadedStory, story, ownCalls, worldOf, loadedGroup}
+use Rattle.group.specs.Alone.{Story, loadedStory, story, ownCalls, runStateOf, loadedGroup}
 
 -- a claim about a moment: by the settings, the site with its packet area, and the past
 abbrev pub Claim : Type 1
-Claim = Config → World → Past → Type 0
+Claim = Config → RunState → Past → Type 0
 
 -- it holds after every list of events from every accepted table
 abbrev pub Always : Claim → Type 0
@@ -46,15 +46,15 @@ Always P = (f : Config) (t : Table) → loadAnswer f t ≡ Done → (area : List
     → P f (reached f t area es) (pastOf f t area es)
 
 -- site and area after a list of calls with windows, and its past
-abbrev pub worldBy : Config → Table → ℕ → List Window → List ℕ → List Call → World
-worldBy f t D ws area cs = record { site = finalBy f t D ws area cs; area = runCalls (beginBy f t D ws area) cs .area }
+abbrev pub runStateBy : Config → Table → ℕ → List Window → List ℕ → List Call → RunState
+runStateBy f t D ws area cs = record { site = finalBy f t D ws area cs; area = runCalls (beginBy f t D ws area) cs .area }
 
 abbrev pub pastBy : Config → Table → ℕ → List Window → List ℕ → List Call → Past
 pastBy f t D ws area cs = traceCalls (noPast (loadedTimed f t D ws .site)) (beginBy f t D ws area) cs
 
 -- of a site in a group: what its own calls lead to, with an area of its own
-abbrev pub siteIn : List ℕ → Story → World
-siteIn own st = worldBy (st .config) (st .table) (st .day) (st .windows) own (st .calls)
+abbrev pub siteOfStory : List ℕ → Story → RunState
+siteOfStory own st = runStateBy (st .config) (st .table) (st .day) (st .windows) own (st .calls)
 
 abbrev pub pastIn : List ℕ → Story → Past
 pastIn own st = pastBy (st .config) (st .table) (st .day) (st .windows) own (st .calls)
@@ -63,31 +63,31 @@ pastIn own st = pastBy (st .config) (st .table) (st .day) (st .windows) own (st 
 pub record Everywhere (P : Claim) : Type 0 where
   -- after every list of calls from every accepted load
   pub calls : (f : Config) (t : Table) (D : ℕ) (ws : List Window) → timedLoadAnswer f t D ws ≡ Done → (area : List ℕ) (cs : List Call)
-      → P f (worldBy f t D ws area cs) (pastBy f t D ws area cs)
+      → P f (runStateBy f t D ws area cs) (pastBy f t D ws area cs)
   -- and right before an accepted end with windows, when the demands of epoch e have been given
   pub given : (f : Config) (t : Table) (D : ℕ) (ws : List Window) → timedLoadAnswer f t D ws ≡ Done
       → (area : List ℕ) (cs : List Call) (e : ℕ) (lent : List Window)
-      → listOk (worldBy f t D ws area cs .site .config .nodes) D lent ≡ true → Accepted (worldBy f t D ws area cs) End
+      → listOk (runStateBy f t D ws area cs .site .config .nodes) D lent ≡ true → Accepted (runStateBy f t D ws area cs) End
       → P f (record {
-        site = givenSite lent e (worldBy f t D ws area cs .site);
-        area = worldBy f t D ws area cs .area;
+        site = givenSite lent e (runStateBy f t D ws area cs .site);
+        area = runStateBy f t D ws area cs .area;
       }) (pastBy f t D ws area cs)
   -- after every list of a group's calls, of the site at number a since its load: the one that is there
   pub group : (area own : List ℕ) → areaSize ≤ length area → areaSize ≤ length own
       → (before cs : List GroupCall) (a : ℕ) (f : Config) (t : Table) (D : ℕ) (ws : List Window)
       → answerTo (runGroup (vacant area) before) (LoadSite a f t D ws) ≡ 0 → (st : Story)
       → st ≡ story (loadedStory f t D ws) (ownCalls a (loadedGroup area before (LoadSite a f t D ws)) cs)
-      → (seatOf (runGroup (loadedGroup area before (LoadSite a f t D ws)) cs) a ≡ Taken (worldOf own st .timed))
-      × P (st .config) (siteIn own st) (pastIn own st)
+      → (siteSlotOf (runGroup (loadedGroup area before (LoadSite a f t D ws)) cs) a ≡ Taken (runStateOf own st .timed))
+      × P (st .config) (siteOfStory own st) (pastIn own st)
 
 -- the law: proved in proofs/Theorem.antt
 pub record Lifts : Type 1 where
   pub law : (P : Claim) → Always P → Everywhere P
 
 -- Demand 3, about a moment w with the past y, of a site that may not split (S-14)
-pub record Agreed (f : Config) (w : World) (y : Past) : Type 0 where
+pub record Agreed (f : Config) (w : RunState) (y : Past) : Type 0 where
   pub agreement : f .split ≡ 0 → w .site .negotiates ≡ true → Agreement (w .site)
-  pub grounded : f .split ≡ 0 → (d : Determination) → List·Memᴰ d (y .log) → Grounded (f .nodes) d
+  pub justified : f .split ≡ 0 → (d : Determination) → List·Memᴰ d (y .log) → Justified (f .nodes) d
   pub unique : f .split ≡ 0 → (d e : Determination) → List·Memᴰ d (y .log) → List·Memᴰ e (y .log) → d .epoch ≡ e .epoch
       → SameDetermination d e
 
@@ -106,7 +106,7 @@ Remains f w y =
     (body : List Event) (v : ℕ) → Ready y (w .site) v → Calm (liveSet (w .site)) w body
     → f .«min_heard» ≤ watched (liveSet (w .site)) unwatched w body .full
     → NobodyJoins (w .site) (epochEnd w body) → (i : ℕ) → liveIn (epochEnd w body) i ≡ true
-    → memberIn (epochEnd w body) i .node .flags ≡ liveSet (epochEnd w body)
+    → siteMember (epochEnd w body) i .node .flags ≡ liveSet (epochEnd w body)
 
 -- two calm epochs with the same members and requests: each member has its target
 abbrev pub Settles : Claim
@@ -115,7 +115,7 @@ Settles f w y =
     → Ready (trace y w (whole first)) (run w (whole first) .site) u
     → Calm (liveSet (run w (whole first) .site)) (run w (whole first)) second
     → SameAsked (w .site) (run w (whole first) .site) → (i : ℕ) → liveIn (w .site) i ≡ true
-    → count (suc i) (ownersOf (memberIn (epochEnd (run w (whole first)) second) i .node .schedule))
+    → count (suc i) (ownersOf (siteMember (epochEnd (run w (whole first)) second) i .node .schedule))
     ≡ getD (targets (f .nodes) (f .slots) (liveSet (run w (whole first) .site)) (requestsOf (run w (whole first) .site))) i 0
 
 -- two nodes that lack no request, in negotiation, and two that are complete at a close
@@ -158,6 +158,6 @@ pub record Lifted : Type 0 where
       → (area : List ℕ) (cs ds : List Call) (body : List Event) (v : ℕ)
       → eventsOfAll (runCalls (beginBy f t D ws area) cs) ds ≡ whole body
       → Ready (pastBy f t D ws area cs) (finalBy f t D ws area cs) v
-      → Calm (liveSet (finalBy f t D ws area cs)) (worldBy f t D ws area cs) body
+      → Calm (liveSet (finalBy f t D ws area cs)) (runStateBy f t D ws area cs) body
       → (i j : ℕ) → liveIn (finalBy f t D ws area cs) i ≡ true → liveIn (finalBy f t D ws area cs) j ≡ true
       → Risen (finalBy f t D ws area cs) (finalBy f t D ws area (cs ++ ds)) v i j

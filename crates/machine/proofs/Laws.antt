@@ -19,7 +19,8 @@ use Rattle.wire.specs.Phases.{phaseOf}
 use Rattle.site.specs.Members.{nobody, setupOf, downMember}
 use Rattle.node.specs.declared.Config.{Config}
 use Rattle.site.specs.Model.{Member}
-use Rattle.machine.specs.Layout.{Store, rowSize, roomSize, rowAt, roomAt, atKnown, atCounts, atSchedule, schedulesAt, atConfig}
+use Rattle.machine.specs.Layout.{Store, rowSize, roomSize, nodeWordsAt, nodeBytesAt, atKnown, atCounters, atSchedule, schedulesAt}
+use Rattle.machine.specs.Layout.{atConfig}
 use Rattle.machine.specs.Layout.{atPlace, atSent, atPhase, configAt, nodeIn, storedIn, configIn, memberIn, siteIn}
 use Rattle.lists.specs.All.{tab}
 use Rattle.lists.specs.Bytes.{window}
@@ -50,7 +51,7 @@ unfolding nodeIn
 setup-there s i = refl
 
 -- the figures, by the words alone
-pub config-words : {v w : List ℕ} (i : ℕ) → i < 32 → Apart v w (rowAt i) rowSize → configAt w ≡ configAt v
+pub config-words : {v w : List ℕ} (i : ℕ) → i < 32 → Apart v w (nodeWordsAt i) rowSize → configAt w ≡ configAt v
 config-words i h p =
     λ x. record {
       nodes = p .above atConfig (omega arith) x;
@@ -61,50 +62,51 @@ config-words i h p =
     }
 
 -- the storage of another node, of the figures, and of the rest
-module _ {s t : Store} (i : ℕ) (p : Apart (s .words) (t .words) (rowAt i) rowSize) (q : Apart (s .bytes) (t .bytes) (roomAt i) roomSize)
+module _ {s t : Store} (i : ℕ) (p : Apart (s .words) (t .words) (nodeWordsAt i) rowSize)
+    (q : Apart (s .bytes) (t .bytes) (nodeBytesAt i) roomSize)
   where
     module _ (k : ℕ) (d : k ≢ i) where
-      row-same : (o : ℕ) → o < rowSize → getD (t .words) (rowAt k + o) 0 ≡ getD (s .words) (rowAt k + o) 0
+      row-same : (o : ℕ) → o < rowSize → getD (t .words) (nodeWordsAt k + o) 0 ≡ getD (s .words) (nodeWordsAt k + o) 0
       row-same o j = go (ltb k i) refl
         where
-          go : (b : Bool) → ltb k i ≡ b → getD (t .words) (rowAt k + o) 0 ≡ getD (s .words) (rowAt k + o) 0
-          go true e = let z = ltb-true k i e in p .below (rowAt k + o) (omega arith)
-          go false e = let z = ltb-false k i e in p .above (rowAt k + o) (omega (arith, d))
+          go : (b : Bool) → ltb k i ≡ b → getD (t .words) (nodeWordsAt k + o) 0 ≡ getD (s .words) (nodeWordsAt k + o) 0
+          go true e = let z = ltb-true k i e in p .below (nodeWordsAt k + o) (omega arith)
+          go false e = let z = ltb-false k i e in p .above (nodeWordsAt k + o) (omega (arith, d))
 
-      room-same : (o : ℕ) → o < roomSize → getD (t .bytes) (roomAt k + o) 0 ≡ getD (s .bytes) (roomAt k + o) 0
+      room-same : (o : ℕ) → o < roomSize → getD (t .bytes) (nodeBytesAt k + o) 0 ≡ getD (s .bytes) (nodeBytesAt k + o) 0
       room-same o j = go (ltb k i) refl
         where
-          go : (b : Bool) → ltb k i ≡ b → getD (t .bytes) (roomAt k + o) 0 ≡ getD (s .bytes) (roomAt k + o) 0
-          go true e = let z = ltb-true k i e in q .below (roomAt k + o) (omega arith)
-          go false e = let z = ltb-false k i e in q .above (roomAt k + o) (omega (arith, d))
+          go : (b : Bool) → ltb k i ≡ b → getD (t .bytes) (nodeBytesAt k + o) 0 ≡ getD (s .bytes) (nodeBytesAt k + o) 0
+          go true e = let z = ltb-true k i e in q .below (nodeBytesAt k + o) (omega arith)
+          go false e = let z = ltb-false k i e in q .above (nodeBytesAt k + o) (omega (arith, d))
 
-      list-same : (n o : ℕ) → o + n ≤ roomSize → window n (t .bytes) (roomAt k + o) ≡ window n (s .bytes) (roomAt k + o)
+      list-same : (n o : ℕ) → o + n ≤ roomSize → window n (t .bytes) (nodeBytesAt k + o) ≡ window n (s .bytes) (nodeBytesAt k + o)
       list-same n o j =
           tab-ext n _ _
           (λ x y.
-          let z : roomAt k + o + x ≡ roomAt k + (o + x) = omega arith in
+          let z : nodeBytesAt k + o + x ≡ nodeBytesAt k + (o + x) = omega arith in
           ap (λ (v : ℕ). getD (t .bytes) v 0) z ∙ room-same (o + x) (omega arith) ∙ ap (λ (v : ℕ). getD (s .bytes) v 0) (sym z))
 
-      held-same : (o : ℕ) → o + masksSize ≤ roomSize → heldIn (t .bytes) (roomAt k + o) ≡ heldIn (s .bytes) (roomAt k + o)
+      held-same : (o : ℕ) → o + masksSize ≤ roomSize → heldIn (t .bytes) (nodeBytesAt k + o) ≡ heldIn (s .bytes) (nodeBytesAt k + o)
       held-same o j =
-          held-alike (t .bytes) (s .bytes) (roomAt k + o) (roomAt k + o)
+          held-alike (t .bytes) (s .bytes) (nodeBytesAt k + o) (nodeBytesAt k + o)
           (λ x y.
-          let z : roomAt k + o + x ≡ roomAt k + (o + x) = omega arith in
+          let z : nodeBytesAt k + o + x ≡ nodeBytesAt k + (o + x) = omega arith in
           ap (λ (v : ℕ). getD (t .bytes) v 0) z ∙ room-same (o + x) (omega (arith, j, y)) ∙ ap (λ (v : ℕ). getD (s .bytes) v 0) (sym z))
 
       next-same : heldIn (t .bytes) (behind (schedulesAt k)) ≡ heldIn (s .bytes) (behind (schedulesAt k))
       next-same =
-          let z : behind (schedulesAt k) ≡ roomAt k + (atSchedule + masksSize) = omega arith in
+          let z : behind (schedulesAt k) ≡ nodeBytesAt k + (atSchedule + masksSize) = omega arith in
           ap (heldIn (t .bytes)) z ∙ held-same (atSchedule + masksSize) (omega arith) ∙ ap (heldIn (s .bytes)) (sym z)
 
-      first-byte : getD (t .bytes) (roomAt k) 0 ≡ getD (s .bytes) (roomAt k) 0
+      first-byte : getD (t .bytes) (nodeBytesAt k) 0 ≡ getD (s .bytes) (nodeBytesAt k) 0
       first-byte =
-          let z : roomAt k ≡ roomAt k + 0 = omega arith in
+          let z : nodeBytesAt k ≡ nodeBytesAt k + 0 = omega arith in
           ap (λ (v : ℕ). getD (t .bytes) v 0) z ∙ room-same 0 (omega arith) ∙ ap (λ (v : ℕ). getD (s .bytes) v 0) (sym z)
 
-      first-word : getD (t .words) (rowAt k) 0 ≡ getD (s .words) (rowAt k) 0
+      first-word : getD (t .words) (nodeWordsAt k) 0 ≡ getD (s .words) (nodeWordsAt k) 0
       first-word =
-          let z : rowAt k ≡ rowAt k + 0 = omega arith in
+          let z : nodeWordsAt k ≡ nodeWordsAt k + 0 = omega arith in
           ap (λ (v : ℕ). getD (t .words) v 0) z ∙ row-same 0 (omega arith) ∙ ap (λ (v : ℕ). getD (s .words) v 0) (sym z)
 
       pub stored-same : configIn t ≡ configIn s → storedIn t k ≡ storedIn s k
@@ -127,8 +129,8 @@ module _ {s t : Store} (i : ℕ) (p : Apart (s .words) (t .words) (rowAt i) rowS
                 heard = row-same 5 (omega arith) x;
               };
               epoch = record {
-                counts = list-same 32 atCounts (omega arith) x;
-                met = row-same 6 (omega arith) x;
+                counters = list-same 32 atCounters (omega arith) x;
+                interactions = row-same 6 (omega arith) x;
                 place = row-same 7 (omega arith) x;
                 updated = eqb (room-same 4 (omega arith) x) 1;
                 determined = next-same x;

@@ -39,23 +39,28 @@ use Rattle.wire.specs.Phases.{phaseOf}
 use Rattle.site.specs.Members.{setupOf, isLive, withNode}
 use Rattle.site.specs.Steps.{closeMember, endMember}
 use Rattle.site.specs.Model.{Member}
-use Rattle.machine.specs.Layout.{Store, bytesSize, rowAt, roomAt, atKnown, atCounts, atSchedule, schedulesAt, configIn, nodeIn}
-use Rattle.machine.specs.Layout.{storedIn, rowOf, frontOf}
+use Rattle.machine.specs.Layout.{Store, bytesSize, nodeWordsAt, nodeBytesAt, atKnown, atCounters, atSchedule, schedulesAt, configIn}
+use Rattle.machine.specs.Layout.{nodeIn}
+use Rattle.machine.specs.Layout.{storedIn, nodeWords, storedFront}
 use Rattle.machine.specs.Written.{writtenFront, writtenMoved, handedOn}
 use Rattle.machine.specs.Inner.{coreIn, memberOf, nextPut}
 
 -- a core written, and its schedules moved: a node's words and front look at no schedule
 pub stepped : (s : Store) (i : ℕ) (m : Member) {next c : Core} {v change : Move} {u : Bool} {w b r : List ℕ} → u ≡ m .up → next
     ≡ coreOf (m .node) → change ≡ v → c ≡ coreIn s i
-    → w ≡ written (s .words) (rowAt i) (rowOf (bare next)) → b ≡ written (s .bytes) (roomAt i) (frontOf (memberOf u (bare next))) → r
+    → w ≡ written (s .words) (nodeWordsAt i) (nodeWords (bare next)) → b
+    ≡ written (s .bytes) (nodeBytesAt i) (storedFront (memberOf u (bare next))) → r
     ≡ movedIn change c b (schedulesAt i)
     → (w ≡ writtenMoved s i m v .words) × (r ≡ writtenMoved s i m v .bytes)
-unfolding rowOf frontOf
+unfolding nodeWords storedFront
 stepped s i m u e f g p q h =
-    let front = q ∙ (λ x. written (s .bytes) (roomAt i) (frontOf (memberOf (u x) (bare (e x))))) in
-    (p ∙ ap (λ (x : Core). written (s .words) (rowAt i) (rowOf (bare x))) e, h ∙ (λ x. movedIn (f x) (g x) (front x) (schedulesAt i)))
+    let front = q ∙ (λ x. written (s .bytes) (nodeBytesAt i) (storedFront (memberOf (u x) (bare (e x))))) in (
+      p ∙ ap (λ (x : Core). written (s .words) (nodeWordsAt i) (nodeWords (bare x))) e,
+      h
+          ∙ (λ x. movedIn (f x) (g x) (front x) (schedulesAt i)),
+    )
 
-pub version-there : (s : Store) (i : ℕ) → getD (s .words) (rowAt i) 0 ≡ nodeIn s i .version
+pub version-there : (s : Store) (i : ℕ) → getD (s .words) (nodeWordsAt i) 0 ≡ nodeIn s i .version
 unfolding nodeIn
 version-there s i = refl
 
@@ -115,10 +120,10 @@ module _ (s : Store) (i h : ℕ) (a : i < 32) (g : h < 32) (b : bytesSize ≤ le
   handed-node =
       let t = handedOn s i h .bytes in
       let p = handed-apart in
-      let byte : (k : ℕ) → k < atSchedule → getD t (roomAt i + k) 0 ≡ getD (s .bytes) (roomAt i + k) 0 =
-      λ k y. p .below (roomAt i + k) (omega (arith, y)) in
-      let list : (k : ℕ) → k + 32 ≤ atSchedule → window 32 t (roomAt i + k) ≡ window 32 (s .bytes) (roomAt i + k) =
-      λ k y. tab-ext 32 _ _ (λ x z. p .below (roomAt i + k + x) (omega (arith, y, z))) in
+      let byte : (k : ℕ) → k < atSchedule → getD t (nodeBytesAt i + k) 0 ≡ getD (s .bytes) (nodeBytesAt i + k) 0 =
+      λ k y. p .below (nodeBytesAt i + k) (omega (arith, y)) in
+      let list : (k : ℕ) → k + 32 ≤ atSchedule → window 32 t (nodeBytesAt i + k) ≡ window 32 (s .bytes) (nodeBytesAt i + k) =
+      λ k y. tab-ext 32 _ _ (λ x z. p .below (nodeBytesAt i + k + x) (omega (arith, y, z))) in
       let held : heldIn t (schedulesAt i) ≡ sentBy (nodeIn s h) .schedule =
       ap (λ (x : List ℕ). heldIn x (schedulesAt i)) copied-is
       ∙ copied-held (s .bytes) (schedulesAt h) (schedulesAt i) (omega (arith, g, b)) (omega (arith, a, b))
@@ -127,22 +132,22 @@ module _ (s : Store) (i h : ℕ) (a : i < 32) (g : h < 32) (b : bytesSize ≤ le
       (λ k y. p .above (behind (schedulesAt i) + k) (omega arith)) in
       λ x. record {
         setup = setupOf (configIn s) (i + 1);
-        version = getD (s .words) (rowAt i) 0;
+        version = getD (s .words) (nodeWordsAt i) 0;
         schedule = held x;
         demand = byte 1 (omega arith) x;
         request = byte 2 (omega arith) x;
-        flags = getD (s .words) (rowAt i + 1) 0;
+        flags = getD (s .words) (nodeWordsAt i + 1) 0;
         round = record {
-          merged = getD (s .words) (rowAt i + 2) 0;
+          merged = getD (s .words) (nodeWordsAt i + 2) 0;
           known = list atKnown (omega arith) x;
-          lowest = getD (s .words) (rowAt i + 3) 0;
-          highest = getD (s .words) (rowAt i + 4) 0;
-          heard = getD (s .words) (rowAt i + 5) 0;
+          lowest = getD (s .words) (nodeWordsAt i + 3) 0;
+          highest = getD (s .words) (nodeWordsAt i + 4) 0;
+          heard = getD (s .words) (nodeWordsAt i + 5) 0;
         };
         epoch = record {
-          counts = list atCounts (omega arith) x;
-          met = getD (s .words) (rowAt i + 6) 0;
-          place = getD (s .words) (rowAt i + 7) 0;
+          counters = list atCounters (omega arith) x;
+          interactions = getD (s .words) (nodeWordsAt i + 6) 0;
+          place = getD (s .words) (nodeWordsAt i + 7) 0;
           updated = eqb (byte 4 (omega arith) x) 1;
           determined = next x;
         };
@@ -173,5 +178,5 @@ wanted-core n d = ap coreOf (want-moved n d)
 -- a next core written back is its node's numbers written: these look at no schedule
 pub next-put : (s : Store) (i : ℕ) {next : Core} (n : Node) → next ≡ coreOf n → nextPut s i next
     ≡ writtenFront s i (withNode (storedIn s i) n)
-unfolding rowOf frontOf
+unfolding nodeWords storedFront
 next-put s i n e = ap (nextPut s i) e

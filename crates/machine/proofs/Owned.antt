@@ -26,7 +26,7 @@ use Rattle.allotment.specs.Model.{Schedule}
 use Rattle.allotment.proofs.Schedules.{owners-made, owner-at}
 use Rattle.allotment.proofs.OwnSlots.{own-bit, own-lt, owns-own}
 use Rattle.allotment.proofs.TwoWords.{count-cat}
-use Rattle.machine.specs.Acts.{noPlace}
+use Rattle.machine.specs.Acts.{noNodeAt}
 use Rattle.machine.specs.Layout.{Store, bytesSize, configIn, schedulesAt}
 use Rattle.machine.specs.Loading.{memberRead, ownersTold}
 use Rattle.machine.proofs.Whole.{at-place, schedule-read}
@@ -71,7 +71,7 @@ told-as l at out to r h =
     (told-all (masksIn l at) ∙ sym (owners-are l at h))
 
 -- told over a list of 80, they are that list
-pub told-whole : (s : Store) (j : ℕ) (out : List ℕ) → length out ≡ 80 → noPlace s j ≡ false
+pub told-whole : (s : Store) (j : ℕ) (out : List ℕ) → length out ≡ 80 → noNodeAt s j ≡ false
     → ownersTold s j out 0 ≡ ownersOf (memberRead s j .node .schedule)
 unfolding ownersTold
 told-whole s j out e p =

@@ -10,11 +10,11 @@ use Rattle.words.proofs.Tests.{hit, skip, and-left, and-right}
 use Rattle.lists.proofs.Laws.{getD-tab}
 use Rattle.node.specs.Figures.{isWaiting}
 use Rattle.node.specs.declared.Move.{Move}
-use Rattle.site.specs.Members.{nobody, memberAt, channelOf, outside, seat, isLive, downMember}
-use Rattle.site.specs.declared.Channel.{Channel}
+use Rattle.site.specs.Members.{nobody, memberAt, headerOf, outside, nodeIndex, isLive, downMember}
+use Rattle.site.specs.declared.SiteHeader.{SiteHeader}
 use Rattle.node.specs.declared.Config.{Config}
 use Rattle.site.specs.Model.{Member}
-use Rattle.site.proofs.Laws.{seat-in}
+use Rattle.site.proofs.Laws.{node-index-in}
 use Rattle.machine.specs.Layout.{Store, upIn, phaseIn, nodeIn, storedIn, configIn, memberIn, siteIn}
 use Rattle.machine.specs.Written.{writtenMoved, each}
 
@@ -42,14 +42,14 @@ pub in-config : (s : Store) (j : ℕ) {t : Bool} → outside (siteIn s .config) 
 unfolding siteIn
 in-config s j h = h
 
--- a test of the channel that is read
-pub outside-as : (s : Store) (j : ℕ) {k : Channel} {t b : Bool} → k ≡ channelOf (siteIn s) → t ≡ outside (k .config) j → t ≡ b
+-- a test of the header that is read
+pub outside-as : (s : Store) (j : ℕ) {k : SiteHeader} {t b : Bool} → k ≡ headerOf (siteIn s) → t ≡ outside (k .config) j → t ≡ b
     → outside (configIn s) j ≡ b
-outside-as s j e p q = in-config s j (ap (λ (x : Channel). outside (x .config) j) (sym e) ∙ sym p ∙ q)
+outside-as s j e p q = in-config s j (ap (λ (x : SiteHeader). outside (x .config) j) (sym e) ∙ sym p ∙ q)
 
 -- its index
-pub at-seat : (f : Config) (j : ℕ) {i : ℕ} → i ≡ seat j → outside f j ≡ false → i ≡ j - 1
-at-seat f j e h = e ∙ seat-in f j h
+pub at-node-index : (f : Config) (j : ℕ) {i : ℕ} → i ≡ nodeIndex j → outside f j ≡ false → i ≡ j - 1
+at-node-index f j e h = e ∙ node-index-in f j h
 
 -- what is read of a live member
 pub live-stored : (s : Store) (i : ℕ) → isLive (storedIn s i) ≡ (upIn (s .bytes) i && not (isWaiting (phaseIn (s .bytes) i)))

@@ -34,7 +34,7 @@ long-stored s i =
     record {
       schedule = held-long (s .bytes) (schedulesAt i);
       known = length-tab 32 _;
-      counts = length-tab 32 _;
+      counters = length-tab 32 _;
       determined = held-long (s .bytes) (behind (schedulesAt i));
     }
 

@@ -14,7 +14,7 @@ use Rattle.node.specs.declared.Config.{Config}
 use Rattle.node.specs.declared.Move.{Move}
 use Rattle.node.specs.Model.{Node}
 use Rattle.site.specs.Model.{Member}
-use Rattle.machine.specs.Layout.{Store, store, wordsSize, rowSize, rowAt, rowOf, configAt, storedIn}
+use Rattle.machine.specs.Layout.{Store, store, wordsSize, rowSize, nodeWordsAt, nodeWords, configAt, storedIn}
 use Rattle.machine.specs.Written.{writtenMoved, each}
 use Rattle.machine.proofs.Laws.{config-words}
 
@@ -30,8 +30,8 @@ module _ (f : ℕ → Store → Store) (s : Store) where
       let z = iter-end f s i n (store w b) e h in
       (ap (λ (x : Store). x .words) z, ap (λ (x : Store). x .bytes) z)
 
-length-row : (n : Node) → length (rowOf n) ≡ rowSize
-unfolding rowOf
+length-row : (n : Node) → length (nodeWords n) ≡ rowSize
+unfolding nodeWords
 length-row n = refl
 
 -- a node's step leaves the figures
@@ -43,7 +43,8 @@ module _ (test : Member → Bool) (step : Member → Member) (change : Member �
       let l = length-row (m .node) in
       by-test (λ (x : Store). configAt (x .words) ≡ configAt (s .words)) (test (storedIn s i))
       (writtenMoved s i m (change (storedIn s i))) s
-      (λ e. config-words i h (apart-written (s .words) (rowOf (m .node)) (rowAt i) (rowAt i) rowSize (omega arith) (omega (arith, l))
+      (λ e. config-words i h
+      (apart-written (s .words) (nodeWords (m .node)) (nodeWordsAt i) (nodeWordsAt i) rowSize (omega arith) (omega (arith, l))
       (omega (arith, l, h, w))))
       (λ e. refl)
 

@@ -9,23 +9,20 @@ use lib.Dec.{ltb, leb}
 use lib.ListN.{length}
 use Rattle.words.proofs.Tests.{hit, skip, is-false, clash, both, or-front, or-back, or-neither}
 use Rattle.lists.proofs.Laws.{getD-tab}
-use Rattle.allotment.specs.Allotment.{free}
 use Rattle.allotment.specs.InPlace.{heldIn}
 use Rattle.node.specs.Figures.{isWaiting, noConfig}
-use Rattle.node.specs.Model.{Node}
-use Rattle.node.proofs.Bare.{waiting-bare}
 use Rattle.site.specs.Load.{loadedSite}
-use Rattle.site.specs.Members.{nobody, setupOf, channelOf, memberAt, outside, seat, isLive, stateOf, downMember}
+use Rattle.site.specs.Members.{nobody, headerOf, memberAt, outside, nodeIndex, isLive, stateOf, downMember}
 use Rattle.node.specs.declared.Config.{Config}
 use Rattle.site.specs.Model.{Member}
 use Rattle.site.specs.declared.State.{State}
 use Rattle.site.specs.declared.State.the-variants.{Live, Waiting, Down}
 use Rattle.site.specs.declared.Table.{Table}
-use Rattle.site.proofs.Laws.{seat-in}
+use Rattle.site.proofs.Laws.{node-index-in}
 use Rattle.machine.specs.Layout.{Store, wordsSize, bytesSize, tooShort, schedulesAt, upIn, phaseIn}
 use Rattle.machine.specs.Layout.{nodeIn, configIn, storedIn, memberIn, siteIn}
-use Rattle.machine.specs.Acts.{noPlace}
-use Rattle.machine.specs.Loading.{siteLoaded, channelRead, memberRead}
+use Rattle.machine.specs.Acts.{noNodeAt}
+use Rattle.machine.specs.Loading.{siteLoaded, headerRead, memberRead}
 use Rattle.machine.specs.Written.{writtenFree, memberPut, closedStore, endedStore, storeClosed, storeEnded}
 use Rattle.machine.proofs.Seats.{member-is, live-stored}
 
@@ -50,9 +47,9 @@ pub as-loaded : (s : Store) (f : Config) (t : Table) → wordsSize ≤ length (s
 unfolding siteLoaded
 as-loaded s f t w b = skip _ _ _ _ (enough s w b) refl
 
-pub as-channel : (s : Store) → wordsSize ≤ length (s .words) → bytesSize ≤ length (s .bytes) → channelRead s ≡ channelOf (siteIn s)
-unfolding channelRead
-as-channel s w b = skip _ _ _ _ (enough s w b) refl
+pub as-header : (s : Store) → wordsSize ≤ length (s .words) → bytesSize ≤ length (s .bytes) → headerRead s ≡ headerOf (siteIn s)
+unfolding headerRead
+as-header s w b = skip _ _ _ _ (enough s w b) refl
 
 -- a number up to 32 that is none of the N nodes'
 beyond : (f : Config) (j : ℕ) → 1 ≤ j → j ≤ 32 → outside f j ≡ true → ltb (j - 1) (f .nodes) ≡ false
@@ -78,7 +75,7 @@ as-member s j w b h k = skip _ _ _ _ (enough s w b) (go (outside (configIn s) j)
     go false o = sym (member-is s j o)
 
 -- what a place tells
-pub at-place : (s : Store) (j : ℕ) → noPlace s j ≡ false → (wordsSize ≤ length (s .words))
+pub at-place : (s : Store) (j : ℕ) → noNodeAt s j ≡ false → (wordsSize ≤ length (s .words))
     × ((bytesSize ≤ length (s .bytes)) × (outside (configIn s) j ≡ false))
 at-place s j h =
     let q = or-neither (tooShort s) (outside (configIn s) j) h in
@@ -86,7 +83,7 @@ at-place s j h =
     (l .0, (l .1, q .1))
 
 pub has-place : (s : Store) (j : ℕ) → wordsSize ≤ length (s .words) → bytesSize ≤ length (s .bytes) → outside (configIn s) j ≡ false
-    → noPlace s j ≡ false
+    → noNodeAt s j ≡ false
 has-place s j w b o = ap₂ _||_ (enough s w b) o
 
 -- the state of a member that is live, of one that waits, and of one that is down
@@ -104,7 +101,7 @@ pub of-down : (u w : Bool) → u ≡ false → _≡_ {A = State} Down (cond u (c
 of-down u w e = ap (λ (x : Bool). cond x (cond w Waiting Live) Down) (sym e)
 
 -- a number of none of them, and storage that is too short, have a member that is down
-pub no-member : (s : Store) (j : ℕ) → noPlace s j ≡ true
+pub no-member : (s : Store) (j : ℕ) → noNodeAt s j ≡ true
     → memberRead s j ≡ downMember (cond (tooShort s) noConfig (configIn s)) j
 unfolding memberRead
 no-member s j h = go (tooShort s) h
@@ -115,19 +112,14 @@ no-member s j h = go (tooShort s) h
     go true e = refl
     go false e = hit _ _ _ e
 
-pub none-owned : (s : Store) (j : ℕ) → noPlace s j ≡ true → memberRead s j .node .schedule ≡ free
-none-owned s j h =
-    let f = cond (tooShort s) noConfig (configIn s) in
-    ap (λ (m : Member). m .node .schedule) (no-member s j h) ∙ ap (λ (n : Node). n .schedule) (sym (waiting-bare (setupOf f j) 0 0 0))
-
-pub none-up : (s : Store) (j : ℕ) → noPlace s j ≡ true → stateOf (memberRead s j) ≡ Down
+pub none-up : (s : Store) (j : ℕ) → noNodeAt s j ≡ true → stateOf (memberRead s j) ≡ Down
 none-up s j h = ap stateOf (no-member s j h)
 
-pub none-live : (s : Store) (j : ℕ) → noPlace s j ≡ true → isLive (memberRead s j) ≡ false
+pub none-live : (s : Store) (j : ℕ) → noNodeAt s j ≡ true → isLive (memberRead s j) ≡ false
 none-live s j h = ap isLive (no-member s j h)
 
-pub live-placed : (s : Store) (j : ℕ) → isLive (memberRead s j) ≡ true → noPlace s j ≡ false
-live-placed s j h = is-false (noPlace s j) (λ e. clash (isLive (memberRead s j)) h (none-live s j e))
+pub live-placed : (s : Store) (j : ℕ) → isLive (memberRead s j) ≡ true → noNodeAt s j ≡ false
+live-placed s j h = is-false (noNodeAt s j) (λ e. clash (isLive (memberRead s j)) h (none-live s j e))
 
 -- a number of one of the N nodes is read and put at its index
 module _ (s : Store) (j : ℕ) (w : wordsSize ≤ length (s .words)) (b : bytesSize ≤ length (s .bytes)) (o : outside (configIn s) j ≡ false)
@@ -137,18 +129,18 @@ module _ (s : Store) (j : ℕ) (w : wordsSize ≤ length (s .words)) (b : bytesS
     stored-read = skip _ _ _ _ (enough s w b) (skip _ _ _ _ o refl)
 
     -- and its parts are those that stand there
-    pub live-read : isLive (memberRead s j) ≡ (upIn (s .bytes) (seat j) && not (isWaiting (phaseIn (s .bytes) (seat j))))
+    pub live-read : isLive (memberRead s j) ≡ (upIn (s .bytes) (nodeIndex j) && not (isWaiting (phaseIn (s .bytes) (nodeIndex j))))
     live-read =
         ap isLive stored-read ∙ live-stored s (j - 1)
-        ∙ ap (λ (i : ℕ). upIn (s .bytes) i && not (isWaiting (phaseIn (s .bytes) i))) (sym (seat-in (configIn s) j o))
+        ∙ ap (λ (i : ℕ). upIn (s .bytes) i && not (isWaiting (phaseIn (s .bytes) i))) (sym (node-index-in (configIn s) j o))
 
     pub state-read : stateOf (memberRead s j)
-        ≡ cond (upIn (s .bytes) (seat j)) (cond (isWaiting (phaseIn (s .bytes) (seat j))) Waiting Live) Down
+        ≡ cond (upIn (s .bytes) (nodeIndex j)) (cond (isWaiting (phaseIn (s .bytes) (nodeIndex j))) Waiting Live) Down
     unfolding nodeIn
     state-read =
         ap stateOf stored-read
         ∙ ap (λ (i : ℕ). cond (upIn (s .bytes) i) (cond (isWaiting (phaseIn (s .bytes) i)) Waiting Live) Down)
-        (sym (seat-in (configIn s) j o))
+        (sym (node-index-in (configIn s) j o))
 
     pub schedule-read : (i : ℕ) → i ≡ j - 1 → memberRead s j .node .schedule ≡ heldIn (s .bytes) (schedulesAt i)
     unfolding nodeIn

@@ -13,24 +13,24 @@ use Rattle.machine.specs.Layout.{Store, tooShort, configIn, nodeIn, stor
 use Rattle.machine.specs.Written.{writtenFront, takenAt}
 
 -- storage that is too short, or a number of none of the N nodes: such a node has no packet, hears as no node does, and writes nothing
-abbrev pub noPlace : Store → ℕ → Bool
-noPlace s j = tooShort s || outside (configIn s) j
+abbrev pub noNodeAt : Store → ℕ → Bool
+noNodeAt s j = tooShort s || outside (configIn s) j
 
 abbrev pub noPacket : Packet
 noPacket = record { sender = 0; lowest = 0; highest = 0; flags = 0; requests = replicate 32 0 }
 
-unfoldable pub packetRead : Store → ℕ → Packet
-packetRead s j = cond (noPlace s j) noPacket (packetOf (nodeIn s (j - 1)))
+unfoldable pub packetSent : Store → ℕ → Packet
+packetSent s j = cond (noNodeAt s j) noPacket (packetOf (nodeIn s (j - 1)))
 
 unfoldable pub hearRead : Store → ℕ → Packet → Answer
-hearRead s j q = cond (noPlace s j) NoSuchNode (hearAnswer (nodeIn s (j - 1)) q)
+hearRead s j q = cond (noNodeAt s j) NoSuchNode (hearAnswer (nodeIn s (j - 1)) q)
 
 -- a hear and a want move no schedule
 unfoldable pub heardPut : Store → ℕ → Packet → Store
-heardPut s j q = cond (noPlace s j) s (writtenFront s (j - 1) (withNode (storedIn s (j - 1)) (heardNode (nodeIn s (j - 1)) q)))
+heardPut s j q = cond (noNodeAt s j) s (writtenFront s (j - 1) (withNode (storedIn s (j - 1)) (heardNode (nodeIn s (j - 1)) q)))
 
 unfoldable pub wantedPut : Store → ℕ → ℕ → Store
-wantedPut s j d = cond (noPlace s j) s (writtenFront s (j - 1) (withNode (storedIn s (j - 1)) (wantedNode (nodeIn s (j - 1)) d)))
+wantedPut s j d = cond (noNodeAt s j) s (writtenFront s (j - 1) (withNode (storedIn s (j - 1)) (wantedNode (nodeIn s (j - 1)) d)))
 
 unfoldable pub takenPut : Store → ℕ → ℕ → Store
-takenPut s j g = cond (noPlace s j || noPlace s g) s (takenAt s (j - 1) (g - 1))
+takenPut s j g = cond (noNodeAt s j || noNodeAt s g) s (takenAt s (j - 1) (g - 1))

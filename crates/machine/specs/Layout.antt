@@ -48,25 +48,25 @@ rowSize = 8
 abbrev pub roomSize : ℕ
 roomSize = 773
 
-abbrev pub rowAt : ℕ → ℕ
-rowAt i = rowSize * i
+abbrev pub nodeWordsAt : ℕ → ℕ
+nodeWordsAt i = rowSize * i
 
-abbrev pub roomAt : ℕ → ℕ
-roomAt i = roomSize * i
+abbrev pub nodeBytesAt : ℕ → ℕ
+nodeBytesAt i = roomSize * i
 
 -- where the lists of a node start among its bytes
 abbrev pub atKnown : ℕ
 atKnown = 5
 
-abbrev pub atCounts : ℕ
-atCounts = 37
+abbrev pub atCounters : ℕ
+atCounters = 37
 
 abbrev pub atSchedule : ℕ
 atSchedule = 69
 
 -- where the schedules of the node at index i start: the held one, and behind it the determined one
 abbrev pub schedulesAt : ℕ → ℕ
-schedulesAt i = roomAt i + atSchedule
+schedulesAt i = nodeBytesAt i + atSchedule
 
 -- where the rest starts: figures and place among the words, counts of packets and phase among the bytes
 abbrev pub atConfig : ℕ
@@ -83,10 +83,10 @@ atPhase = 24768
 
 -- whether the node at index i is up, and its phase
 abbrev pub upIn : List ℕ → ℕ → Bool
-upIn b i = eqb (getD b (roomAt i) 0) 1
+upIn b i = eqb (getD b (nodeBytesAt i) 0) 1
 
 abbrev pub phaseIn : List ℕ → ℕ → Phase
-phaseIn b i = phaseOf (getD b (roomAt i + 3) 0)
+phaseIn b i = phaseOf (getD b (nodeBytesAt i + 3) 0)
 
 -- the figures of the site, by its words
 abbrev pub configAt : List ℕ → Config
@@ -107,23 +107,23 @@ unfoldable pub nodeIn : Store → ℕ → Node
 nodeIn s i =
     record {
       setup = setupOf (configIn s) (i + 1);
-      version = getD (s .words) (rowAt i) 0;
+      version = getD (s .words) (nodeWordsAt i) 0;
       schedule = heldIn (s .bytes) (schedulesAt i);
-      demand = getD (s .bytes) (roomAt i + 1) 0;
-      request = getD (s .bytes) (roomAt i + 2) 0;
-      flags = getD (s .words) (rowAt i + 1) 0;
+      demand = getD (s .bytes) (nodeBytesAt i + 1) 0;
+      request = getD (s .bytes) (nodeBytesAt i + 2) 0;
+      flags = getD (s .words) (nodeWordsAt i + 1) 0;
       round = record {
-        merged = getD (s .words) (rowAt i + 2) 0;
-        known = window 32 (s .bytes) (roomAt i + atKnown);
-        lowest = getD (s .words) (rowAt i + 3) 0;
-        highest = getD (s .words) (rowAt i + 4) 0;
-        heard = getD (s .words) (rowAt i + 5) 0;
+        merged = getD (s .words) (nodeWordsAt i + 2) 0;
+        known = window 32 (s .bytes) (nodeBytesAt i + atKnown);
+        lowest = getD (s .words) (nodeWordsAt i + 3) 0;
+        highest = getD (s .words) (nodeWordsAt i + 4) 0;
+        heard = getD (s .words) (nodeWordsAt i + 5) 0;
       };
       epoch = record {
-        counts = window 32 (s .bytes) (roomAt i + atCounts);
-        met = getD (s .words) (rowAt i + 6) 0;
-        place = getD (s .words) (rowAt i + 7) 0;
-        updated = eqb (getD (s .bytes) (roomAt i + 4) 0) 1;
+        counters = window 32 (s .bytes) (nodeBytesAt i + atCounters);
+        interactions = getD (s .words) (nodeWordsAt i + 6) 0;
+        place = getD (s .words) (nodeWordsAt i + 7) 0;
+        updated = eqb (getD (s .bytes) (nodeBytesAt i + 4) 0) 1;
         determined = heldIn (s .bytes) (behind (schedulesAt i));
       };
       phase = phaseIn (s .bytes) i;
@@ -149,13 +149,14 @@ siteIn s =
     }
 
 -- a node's words
-unfoldable pub rowOf : Node → List ℕ
-rowOf n =
-    n .version ∷ n .flags ∷ n .round .merged ∷ n .round .lowest ∷ n .round .highest ∷ n .round .heard ∷ n .epoch .met ∷ n .epoch .place ∷ []
+unfoldable pub nodeWords : Node → List ℕ
+nodeWords n =
+    n .version ∷ n .flags ∷ n .round .merged ∷ n .round .lowest ∷ n .round .highest ∷ n .round .heard ∷ n .epoch .interactions
+    ∷ n .epoch .place ∷ []
 
 -- a member's bytes without the schedules: five single ones and two lists
-abbrev pub smallOf : Member → List ℕ
-smallOf m = boolByte (m .up) ∷ m .node .demand ∷ m .node .request ∷ phaseByte (m .node .phase) ∷ boolByte (m .node .epoch .updated) ∷ []
+abbrev pub storedSmall : Member → List ℕ
+storedSmall m = boolByte (m .up) ∷ m .node .demand ∷ m .node .request ∷ phaseByte (m .node .phase) ∷ boolByte (m .node .epoch .updated) ∷ []
 
-unfoldable pub frontOf : Member → List ℕ
-frontOf m = smallOf m ++ (m .node .round .known ++ m .node .epoch .counts)
+unfoldable pub storedFront : Member → List ℕ
+storedFront m = storedSmall m ++ (m .node .round .known ++ m .node .epoch .counters)

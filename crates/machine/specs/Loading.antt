@@ -14,14 +14,14 @@ use Rattle.node.specs.declared.Answer.the-variants.{Done, NoRoom}
 use Rattle.site.specs.Load.{loadedMember, loadedSite}
 use Rattle.site.specs.Counts.{noneSent}
 use Rattle.node.specs.Figures.{noConfig}
-use Rattle.site.specs.Members.{channelOf, outside, isLive, downMember}
-use Rattle.site.specs.declared.Channel.{Channel}
+use Rattle.site.specs.Members.{headerOf, outside, isLive, downMember}
+use Rattle.site.specs.declared.SiteHeader.{SiteHeader}
 use Rattle.node.specs.declared.Config.{Config}
 use Rattle.site.specs.Model.{Member}
 use Rattle.site.specs.declared.Table.{Table}
 use Rattle.site.specs.Model.{Site}
 use Rattle.machine.specs.Layout.{Store, store, tooShort, atConfig, configIn, storedIn, siteIn}
-use Rattle.machine.specs.Acts.{noPlace}
+use Rattle.machine.specs.Acts.{noNodeAt}
 use Rattle.machine.specs.Written.{writtenFree, phased}
 
 -- the figures, and the first round
@@ -48,11 +48,11 @@ unfoldable pub siteLoaded : Store → Config → Table → Site
 siteLoaded s f t = cond (tooShort s) (siteIn s) (loadedSite f t)
 
 -- what the site holds beside its members; storage that is too short stands for no site
-abbrev pub noChannel : Channel
-noChannel = record { config = noConfig; negotiates = true; place = 0; sent = noneSent }
+abbrev pub noHeader : SiteHeader
+noHeader = record { config = noConfig; negotiates = true; place = 0; sent = noneSent }
 
-unfoldable pub channelRead : Store → Channel
-channelRead s = cond (tooShort s) noChannel (channelOf (siteIn s))
+unfoldable pub headerRead : Store → SiteHeader
+headerRead s = cond (tooShort s) noHeader (headerOf (siteIn s))
 
 -- the member of number j; a number of none of the N nodes has a member that is down
 unfoldable pub memberRead : Store → ℕ → Member
@@ -65,4 +65,4 @@ slotsRead s j = cond (isLive (memberRead s j)) (howMany topSlots (λ k. eqb (own
 -- the owners of node j's own schedule at a place of an output; of a number of none of the N nodes, and without room, nothing changes
 unfoldable pub ownersTold : Store → ℕ → List ℕ → ℕ → List ℕ
 ownersTold s j out to =
-    cond (noPlace s j) out (cond (leb (to + 80) (length out)) (written out to (ownersOf (memberRead s j .node .schedule))) out)
+    cond (noNodeAt s j) out (cond (leb (to + 80) (length out)) (written out to (ownersOf (memberRead s j .node .schedule))) out)

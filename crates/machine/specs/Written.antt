@@ -21,17 +21,18 @@ use Rattle.site.specs.Counts.{noneSent}
 use Rattle.site.specs.Members.{outside, isLive}
 use Rattle.site.specs.Steps.{closeMember, endMember, takenMember, placeAfter}
 use Rattle.site.specs.Model.{Member}
-use Rattle.machine.specs.Layout.{Store, store, tooShort, rowAt, roomAt, schedulesAt, atPlace, atSent, configIn, nodeIn, storedIn}
-use Rattle.machine.specs.Layout.{siteIn, rowOf, frontOf}
+use Rattle.machine.specs.Layout.{Store, store, tooShort, nodeWordsAt, nodeBytesAt, schedulesAt, atPlace, atSent, configIn, nodeIn}
+use Rattle.machine.specs.Layout.{storedIn}
+use Rattle.machine.specs.Layout.{siteIn, nodeWords, storedFront}
 
 -- a member's numbers at index i, without the schedules
 abbrev pub writtenFront : Store → ℕ → Member → Store
-writtenFront s i m = store (written (s .words) (rowAt i) (rowOf (m .node))) (written (s .bytes) (roomAt i) (frontOf m))
+writtenFront s i m = store (written (s .words) (nodeWordsAt i) (nodeWords (m .node))) (written (s .bytes) (nodeBytesAt i) (storedFront m))
 
 -- and its schedules moved, by the core before
 abbrev pub writtenMoved : Store → ℕ → Member → Move → Store
-writtenMoved s i m v = store (written (s .words) (rowAt i) (rowOf (m .node)))
-    (movedIn v (coreOf (nodeIn s i)) (written (s .bytes) (roomAt i) (frontOf m)) (schedulesAt i))
+writtenMoved s i m v = store (written (s .words) (nodeWordsAt i) (nodeWords (m .node)))
+    (movedIn v (coreOf (nodeIn s i)) (written (s .bytes) (nodeBytesAt i) (storedFront m)) (schedulesAt i))
 
 -- a member with all slots free
 abbrev pub writtenFree : Store → ℕ → Member → Store

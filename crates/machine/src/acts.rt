@@ -5,13 +5,13 @@ ghost use lib.ListN.{length};
 ghost use Rattle.machine.specs.Inner.{nextPut};
 ghost use Rattle.machine.specs.Layout.{store, wordsSize, bytesSize};
 ghost use Rattle.machine.specs.Written.{takenAt};
-ghost use Rattle.machine.specs.Acts.{noPlace, noPacket, packetRead, hearRead, heardPut, wantedPut, takenPut};
+ghost use Rattle.machine.specs.Acts.{noNodeAt, noPacket, packetSent, hearRead, heardPut, wantedPut, takenPut};
 use crate::layout::BYTES;
-use crate::layout::ROOM;
+use crate::layout::NODE_BYTES;
 use crate::layout::SCHEDULE;
 use crate::layout::WORDS;
-use crate::read::channel_at;
 use crate::read::core_at;
+use crate::read::header_at;
 use crate::read::is_up;
 use crate::read::version_at;
 use crate::write::move_schedules;
@@ -22,13 +22,13 @@ use node::Core;
 use node::Packet;
 
 // Whether the storage is too short, or the number is none of the N nodes'.
-pub(crate) fn no_place(words: &[u32], bytes: &[u8], j: u32) -> bool
-    ensures { λ r. ⌜ r ≡ noPlace (store (now (words .entry)) (now (bytes .entry))) j ⌝ }
+pub(crate) fn no_node(words: &[u32], bytes: &[u8], j: u32) -> bool
+    ensures { λ r. ⌜ r ≡ noNodeAt (store (now (words .entry)) (now (bytes .entry))) j ⌝ }
 {
     if (words.len() < WORDS) | (bytes.len() < BYTES) {
         return true;
     }
-    let k = channel_at(words, bytes);
+    let k = header_at(words, bytes);
     k.outside(j)
 }
 
@@ -46,12 +46,12 @@ fn no_packet() -> Packet
 
 // The packet that node j sends.
 pub fn packet(words: &[u32], bytes: &[u8], j: u32) -> Packet
-    ensures { λ r. ⌜ r ≡ packetRead (store (now (words .entry)) (now (bytes .entry))) j ⌝ }
+    ensures { λ r. ⌜ r ≡ packetSent (store (now (words .entry)) (now (bytes .entry))) j ⌝ }
 {
-    if no_place(words, bytes, j) {
+    if no_node(words, bytes, j) {
         return no_packet();
     }
-    let c = core_at(words, bytes, site::seat(j));
+    let c = core_at(words, bytes, site::node_index(j));
     let s = c.send();
     s.packet
 }
@@ -60,10 +60,10 @@ pub fn packet(words: &[u32], bytes: &[u8], j: u32) -> Packet
 pub fn hear_answer(words: &[u32], bytes: &[u8], j: u32, q: Packet) -> Answer
     ensures { λ r. ⌜ r ≡ hearRead (store (now (words .entry)) (now (bytes .entry))) j q ⌝ }
 {
-    if no_place(words, bytes, j) {
+    if no_node(words, bytes, j) {
         return Answer::NoSuchNode;
     }
-    let c = core_at(words, bytes, site::seat(j));
+    let c = core_at(words, bytes, site::node_index(j));
     c.hear_answer(q)
 }
 
@@ -83,10 +83,10 @@ pub fn hear(words: &mut [u32], bytes: &mut [u8], j: u32, q: Packet)
     ensures { λ _. ⌜ now (words .exit) ≡ heardPut (store (now (words .entry)) (now (bytes .entry))) j q .words ⌝ }
     ensures { λ _. ⌜ now (bytes .exit) ≡ heardPut (store (now (words .entry)) (now (bytes .entry))) j q .bytes ⌝ }
 {
-    if no_place(words, bytes, j) {
+    if no_node(words, bytes, j) {
         return;
     }
-    let i = site::seat(j);
+    let i = site::node_index(j);
     let c = core_at(words, bytes, i);
     put_next(words, bytes, i, c.hear(q));
 }
@@ -96,10 +96,10 @@ pub fn want(words: &mut [u32], bytes: &mut [u8], j: u32, d: u8)
     ensures { λ _. ⌜ now (words .exit) ≡ wantedPut (store (now (words .entry)) (now (bytes .entry))) j d .words ⌝ }
     ensures { λ _. ⌜ now (bytes .exit) ≡ wantedPut (store (now (words .entry)) (now (bytes .entry))) j d .bytes ⌝ }
 {
-    if no_place(words, bytes, j) {
+    if no_node(words, bytes, j) {
         return;
     }
-    let i = site::seat(j);
+    let i = site::node_index(j);
     let c = core_at(words, bytes, i);
     put_next(words, bytes, i, c.want(d));
 }
@@ -115,7 +115,7 @@ fn take_from(words: &mut [u32], bytes: &mut [u8], i: usize, h: usize)
     let o = c.take(version_at(words, h));
     let next = o.core;
     let change = o.change;
-    masks::copy(bytes, ROOM * h + SCHEDULE, ROOM * i + SCHEDULE);
+    masks::copy(bytes, NODE_BYTES * h + SCHEDULE, NODE_BYTES * i + SCHEDULE);
     put_row(words, i, next);
     put_front(bytes, i, up, next);
     move_schedules(bytes, i, change, c);
@@ -126,8 +126,8 @@ pub fn take(words: &mut [u32], bytes: &mut [u8], j: u32, g: u32)
     ensures { λ _. ⌜ now (words .exit) ≡ takenPut (store (now (words .entry)) (now (bytes .entry))) j g .words ⌝ }
     ensures { λ _. ⌜ now (bytes .exit) ≡ takenPut (store (now (words .entry)) (now (bytes .entry))) j g .bytes ⌝ }
 {
-    if no_place(words, bytes, j) | no_place(words, bytes, g) {
+    if no_node(words, bytes, j) | no_node(words, bytes, g) {
         return;
     }
-    take_from(words, bytes, site::seat(j), site::seat(g));
+    take_from(words, bytes, site::node_index(j), site::node_index(g));
 }

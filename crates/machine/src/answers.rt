@@ -7,10 +7,10 @@ ghost use Rattle.node.specs.declared.Answer.the-variants.{Done, WrongPhase};
 ghost use Rattle.site.specs.Answers.{siteSend, siteHear, siteClose, siteTake, siteEnd, siteWant, siteCrash, siteRestart, eventAnswer};
 ghost use Rattle.machine.specs.steps.Inner.{answerReady};
 ghost use Rattle.machine.specs.steps.After.{siteHeard};
-ghost use Rattle.site.specs.Members.{channelOf, memberAt};
+ghost use Rattle.site.specs.Members.{headerOf, memberAt};
 ghost use Rattle.wire.specs.Reads.{partOf};
 ghost use Rattle.machine.specs.Layout.{store, siteIn, wordsSize, bytesSize};
-use crate::steps_read::channel_at;
+use crate::steps_read::header_at;
 use node::Answer;
 use node::Setup;
 use site::Event;
@@ -29,10 +29,10 @@ fn in_phase(right: bool) -> Answer
 // What is tested before a send or a hear of node j.
 fn ready(words: &[u32], bytes: &[u8], j: u32) -> Answer
     requires { ⌜ (wordsSize ≤ length (now words)) × (bytesSize ≤ length (now bytes)) ⌝ }
-    ensures { λ r. ⌜ r ≡ answerReady (channelOf (siteIn (store (now (words .entry)) (now (bytes .entry)))))
+    ensures { λ r. ⌜ r ≡ answerReady (headerOf (siteIn (store (now (words .entry)) (now (bytes .entry)))))
         (memberAt (siteIn (store (now (words .entry)) (now (bytes .entry)))) j) j ⌝ }
 {
-    let k = channel_at(words, bytes);
+    let k = header_at(words, bytes);
     if k.outside(j) {
         return Answer::NoSuchNode;
     }
@@ -53,7 +53,7 @@ fn send_answer(words: &[u32], bytes: &[u8], j: u32) -> Answer
     if !node::is_done(first) {
         return first;
     }
-    let k = channel_at(words, bytes);
+    let k = header_at(words, bytes);
     if k.is_full(j) {
         return Answer::TooManyPackets;
     }
@@ -87,7 +87,7 @@ pub(crate) fn heard_answer(
     if !node::is_done(first) {
         return first;
     }
-    let k = channel_at(words, bytes);
+    let k = header_at(words, bytes);
     if !k.is_packet(p) {
         return Answer::NoSuchPacket;
     }
@@ -112,7 +112,7 @@ fn take_answer(words: &[u32], bytes: &[u8], j: u32, g: u32) -> Answer
     requires { ⌜ (wordsSize ≤ length (now words)) × (bytesSize ≤ length (now bytes)) ⌝ }
     ensures { λ r. ⌜ r ≡ siteTake (siteIn (store (now (words .entry)) (now (bytes .entry)))) j g ⌝ }
 {
-    let k = channel_at(words, bytes);
+    let k = header_at(words, bytes);
     if k.outside(j) | k.outside(g) {
         return Answer::NoSuchNode;
     }
@@ -145,7 +145,7 @@ fn crash_answer(words: &[u32], bytes: &[u8], j: u32) -> Answer
     requires { ⌜ (wordsSize ≤ length (now words)) × (bytesSize ≤ length (now bytes)) ⌝ }
     ensures { λ r. ⌜ r ≡ siteCrash (siteIn (store (now (words .entry)) (now (bytes .entry)))) j ⌝ }
 {
-    let k = channel_at(words, bytes);
+    let k = header_at(words, bytes);
     if k.outside(j) {
         return Answer::NoSuchNode;
     }
@@ -159,7 +159,7 @@ fn restart_answer(words: &[u32], bytes: &[u8], j: u32, flags: u32) -> Answer
     requires { ⌜ (wordsSize ≤ length (now words)) × (bytesSize ≤ length (now bytes)) ⌝ }
     ensures { λ r. ⌜ r ≡ siteRestart (siteIn (store (now (words .entry)) (now (bytes .entry)))) j flags ⌝ }
 {
-    let k = channel_at(words, bytes);
+    let k = header_at(words, bytes);
     let f = k.config;
     let s = Setup { node: j, config: f };
     if !s.flags_ok(flags) {
@@ -178,7 +178,7 @@ fn close_answer(words: &[u32], bytes: &[u8]) -> Answer
     requires { ⌜ (wordsSize ≤ length (now words)) × (bytesSize ≤ length (now bytes)) ⌝ }
     ensures { λ r. ⌜ r ≡ siteClose (siteIn (store (now (words .entry)) (now (bytes .entry)))) ⌝ }
 {
-    let k = channel_at(words, bytes);
+    let k = header_at(words, bytes);
     in_phase(k.negotiates)
 }
 
@@ -186,7 +186,7 @@ fn end_answer(words: &[u32], bytes: &[u8]) -> Answer
     requires { ⌜ (wordsSize ≤ length (now words)) × (bytesSize ≤ length (now bytes)) ⌝ }
     ensures { λ r. ⌜ r ≡ siteEnd (siteIn (store (now (words .entry)) (now (bytes .entry)))) ⌝ }
 {
-    let k = channel_at(words, bytes);
+    let k = header_at(words, bytes);
     in_phase(!k.negotiates)
 }
 

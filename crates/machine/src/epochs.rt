@@ -5,13 +5,13 @@ ghost use lib.ListN.{length};
 ghost use Rattle.machine.specs.Layout.{store, siteIn, wordsSize, bytesSize};
 ghost use Rattle.lists.specs.All.{tab};
 ghost use Rattle.tally.specs.Claims.{heldBy};
-ghost use Rattle.tally.specs.Ends.{schedulesAt, tallyAt};
+ghost use Rattle.tally.specs.Ends.{schedulesOf, tallyAt};
 use tally::Tally;
 
 // How many slots each node holds by its own schedule, with which an epoch begins.
 fn slots_held(words: &[u32], bytes: &[u8]) -> [u8; 32]
     requires { ⌜ (wordsSize ≤ length (now words)) × (bytesSize ≤ length (now bytes)) ⌝ }
-    ensures { λ r. ⌜ r ≡ tab 32 (heldBy (schedulesAt (siteIn (store (now (words .entry)) (now (bytes .entry)))))) ⌝ }
+    ensures { λ r. ⌜ r ≡ tab 32 (heldBy (schedulesOf (siteIn (store (now (words .entry)) (now (bytes .entry)))))) ⌝ }
 {
     let mut l = [0u8; 32];
     for i in 0..32usize {
@@ -25,7 +25,7 @@ pub(crate) fn tally_at(words: &[u32], bytes: &[u8], t: Tally) -> Tally
     requires { ⌜ (wordsSize ≤ length (now words)) × (bytesSize ≤ length (now bytes)) ⌝ }
     ensures { λ r. ⌜ r ≡ tallyAt (siteIn (store (now (words .entry)) (now (bytes .entry)))) t ⌝ }
 {
-    let k = crate::look::channel(words, bytes);
+    let k = crate::look::header(words, bytes);
     if k.place == 0 {
         return t.counted(slots_held(words, bytes));
     }

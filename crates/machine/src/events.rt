@@ -12,7 +12,7 @@ ghost use Rattle.machine.specs.Layout.{store, siteIn, wordsSize, bytesSi
 ghost use Rattle.machine.specs.steps.After.{sentStore, heardPart, heardStore, takenStore, wantedStore, crashedStore, restartedStore};
 ghost use Rattle.machine.specs.steps.After.{nextStore, siteHeard};
 use crate::SENT;
-use crate::steps_read::channel_at;
+use crate::steps_read::header_at;
 use node::Core;
 use node::Setup;
 use site::Event;
@@ -25,8 +25,8 @@ pub(crate) fn send_into(words: &[u32], bytes: &mut [u8], area: &mut [u8], at: u3
     ensures { λ _. ⌜ now (area .exit)
         ≡ stored (now (area .entry)) at (packetOf (memberAt (siteIn (store (now (words .entry)) (now (bytes .entry)))) j .node)) ⌝ }
 {
-    wire::place_packet(area, at, crate::acts::packet(words, bytes, j));
-    let i = site::seat(j);
+    wire::put_packet(area, at, crate::acts::packet(words, bytes, j));
+    let i = site::node_index(j);
     let before = bytes[SENT + i];
     bytes[SENT + i] = before + 1;
 }
@@ -38,7 +38,7 @@ fn send(words: &[u32], bytes: &mut [u8], area: &mut [u8], j: u32)
     ensures { λ _. ⌜ now (bytes .exit) ≡ sentStore (store (now (words .entry)) (now (bytes .entry))) j .bytes ⌝ }
     ensures { λ _. ⌜ now (area .exit) ≡ sentArea (siteIn (store (now (words .entry)) (now (bytes .entry)))) (now (area .entry)) j ⌝ }
 {
-    let k = channel_at(words, bytes);
+    let k = header_at(words, bytes);
     send_into(words, bytes, area, k.packets(), j);
 }
 
@@ -92,7 +92,7 @@ fn crash(words: &mut [u32], bytes: &mut [u8], j: u32)
     ensures { λ _. ⌜ now (words .exit) ≡ crashedStore (store (now (words .entry)) (now (bytes .entry))) j .words ⌝ }
     ensures { λ _. ⌜ now (bytes .exit) ≡ crashedStore (store (now (words .entry)) (now (bytes .entry))) j .bytes ⌝ }
 {
-    let k = channel_at(words, bytes);
+    let k = header_at(words, bytes);
     let f = k.config;
     let setup = Setup { node: j, config: f };
     let c = Core::restart(setup, 0, 0);
@@ -106,7 +106,7 @@ fn restart(words: &mut [u32], bytes: &mut [u8], j: u32, flags: u32)
     ensures { λ _. ⌜ now (words .exit) ≡ restartedStore (store (now (words .entry)) (now (bytes .entry))) j flags .words ⌝ }
     ensures { λ _. ⌜ now (bytes .exit) ≡ restartedStore (store (now (words .entry)) (now (bytes .entry))) j flags .bytes ⌝ }
 {
-    let k = channel_at(words, bytes);
+    let k = header_at(words, bytes);
     let f = k.config;
     let setup = Setup { node: j, config: f };
     let c = Core::restart(setup, flags, k.place);

@@ -5,22 +5,23 @@ ghost use mathlib.Core.Bool.{true};
 ghost use Prim.Native.Nat.{min, _<_};
 ghost use Rattle.windows.specs.Windows.{listOk};
 ghost use Rattle.windows.specs.Copies.{windowsIn};
-ghost use Rattle.site.specs.Members.{channelOf, setupOf};
+ghost use Rattle.site.specs.Members.{headerOf, setupOf};
 ghost use Rattle.node.specs.Figures.{isLast};
 ghost use Rattle.site.specs.declared.Event.the-variants.{End};
 ghost use Rattle.machine.specs.Layout.{store, siteIn};
 ghost use Rattle.machine.specs.steps.After.{areaWith};
-ghost use Rattle.machine.specs.hours.Hours.{nextEpoch, givenRow, givenTable};
-ghost use Rattle.machine.specs.hours.Stored.{storedLoad, timedLoadedStore, timedLoadedSite, givenAt, givenStore, turned, begunStore};
+ghost use Rattle.machine.specs.hours.Hours.{nextInDay, givenRow, givenTable};
+ghost use Rattle.machine.specs.hours.Stored.{storedLoad, timedLoadedStore, timedLoadedSite, givenAt, givenStore, dayAnswer};
+ghost use Rattle.machine.specs.hours.Stored.{begunStore};
 ghost use Rattle.machine.specs.hours.Stored.{timedStore, timedSite, turnedBy, storeBy};
-ghost use Rattle.machine.specs.hours.Inner.{dayBegun, verdict};
+ghost use Rattle.machine.specs.hours.Inner.{dayBegun, listVerdict};
 use crate::Day;
-use crate::Turned;
+use crate::DayAnswer;
 use node::Answer;
 use node::Config;
-use site::Channel;
 use site::Event;
 use site::Row;
+use site::SiteHeader;
 use site::Table;
 
 // A row as the first epoch begins.
@@ -59,7 +60,7 @@ pub fn load(
     t: Table,
     length: u32,
     w: &[u32],
-) -> Turned
+) -> DayAnswer
     ensures { λ r. ⌜ r ≡ storedLoad (store (now (words .entry)) (now (bytes .entry))) f t length (windowsIn (now (w .entry))) ⌝ }
     ensures { λ _. ⌜ now (words .exit)
         ≡ timedLoadedStore (store (now (words .entry)) (now (bytes .entry))) f t length (windowsIn (now (w .entry))) .words ⌝ }
@@ -70,23 +71,23 @@ pub fn load(
 {
     let day = Day { length, epoch: 0 };
     if (words.len() < crate::layout::WORDS) | (bytes.len() < crate::layout::BYTES) {
-        return Turned {
+        return DayAnswer {
             answer: Answer::NoRoom,
             day,
         };
     }
     let plain = site::load_answer(f, t);
     if !node::is_done(plain) {
-        return Turned { answer: plain, day };
+        return DayAnswer { answer: plain, day };
     }
     if !windows::list_ok(w, f.nodes, length) {
-        return Turned {
+        return DayAnswer {
             answer: Answer::BadWindows,
             day,
         };
     }
     let answer = crate::load::fresh(words, bytes, f, given_table(w, f.nodes, length, t));
-    Turned { answer, day }
+    DayAnswer { answer, day }
 }
 
 // The demand of an epoch for the node at an index.
@@ -122,7 +123,7 @@ fn give(words: &mut [u32], bytes: &mut [u8], area: &mut [u8], w: &[u32], epoch: 
 }
 
 // The round is the epoch's last.
-fn in_last_round(k: Channel) -> bool
+fn in_last_round(k: SiteHeader) -> bool
     ensures { λ r. ⌜ r ≡ isLast (k .config) (k .place) ⌝ }
 {
     let f = k.config;
@@ -134,11 +135,11 @@ fn begin(
     words: &mut [u32],
     bytes: &mut [u8],
     area: &mut [u8],
-    k: Channel,
+    k: SiteHeader,
     day: Day,
     w: &[u32],
 ) -> Day
-    requires { ⌜ k ≡ channelOf (siteIn (store (now words) (now bytes))) ⌝ }
+    requires { ⌜ k ≡ headerOf (siteIn (store (now words) (now bytes))) ⌝ }
     ensures { λ r. ⌜ r ≡ dayBegun (siteIn (store (now (words .entry)) (now (bytes .entry)))) day ⌝ }
     ensures { λ _. ⌜ now (words .exit)
         ≡ begunStore (store (now (words .entry)) (now (bytes .entry))) day (now (area .entry)) (windowsIn (now (w .entry))) End .words ⌝ }
@@ -163,7 +164,7 @@ fn end(
     day: Day,
     w: &[u32],
     ok: bool,
-) -> Turned
+) -> DayAnswer
     ensures { λ r. ⌜ r ≡ turnedBy ok (store (now (words .entry)) (now (bytes .entry))) day (now (area .entry)) End ⌝ }
     ensures { λ _. ⌜ now (words .exit)
         ≡ storeBy ok (store (now (words .entry)) (now (bytes .entry))) day (now (area .entry)) (windowsIn (now (w .entry))) End .words ⌝ }
@@ -173,18 +174,18 @@ fn end(
 {
     let plain = crate::steps::answer_to(words, bytes, area, Event::End);
     if !node::is_done(plain) {
-        return Turned { answer: plain, day };
+        return DayAnswer { answer: plain, day };
     }
     if !ok {
-        return Turned {
+        return DayAnswer {
             answer: Answer::BadWindows,
             day,
         };
     }
-    let k = crate::look::channel(words, bytes);
+    let k = crate::look::header(words, bytes);
     let next = begin(words, bytes, area, k, day, w);
     crate::steps::step(words, bytes, area, Event::End);
-    Turned {
+    DayAnswer {
         answer: Answer::Done,
         day: next,
     }
@@ -199,7 +200,7 @@ pub fn step_tested(
     e: Event,
     w: &[u32],
     ok: bool,
-) -> Turned
+) -> DayAnswer
     ensures { λ r. ⌜ r ≡ turnedBy ok (store (now (words .entry)) (now (bytes .entry))) day (now (area .entry)) e ⌝ }
     ensures { λ _. ⌜ now (words .exit)
         ≡ storeBy ok (store (now (words .entry)) (now (bytes .entry))) day (now (area .entry)) (windowsIn (now (w .entry))) e .words ⌝ }
@@ -211,17 +212,17 @@ pub fn step_tested(
         return end(words, bytes, area, day, w, ok);
     }
     let answer = crate::steps::step(words, bytes, area, e);
-    Turned { answer, day }
+    DayAnswer { answer, day }
 }
 
 // What an event's list is found to be.
 fn tested(words: &[u32], bytes: &[u8], day: Day, e: Event, w: &[u32]) -> bool
-    ensures { λ r. ⌜ r ≡ verdict (store (now (words .entry)) (now (bytes .entry))) day (windowsIn (now (w .entry))) e ⌝ }
+    ensures { λ r. ⌜ r ≡ listVerdict (store (now (words .entry)) (now (bytes .entry))) day (windowsIn (now (w .entry))) e ⌝ }
 {
     if !site::is_end(e) {
         return true;
     }
-    let k = crate::look::channel(words, bytes);
+    let k = crate::look::header(words, bytes);
     let f = k.config;
     windows::list_ok(w, f.nodes, day.length)
 }
@@ -235,8 +236,9 @@ pub fn step(
     day: Day,
     e: Event,
     w: &[u32],
-) -> Turned
-    ensures { λ r. ⌜ r ≡ turned (store (now (words .entry)) (now (bytes .entry))) day (now (area .entry)) (windowsIn (now (w .entry))) e ⌝ }
+) -> DayAnswer
+    ensures { λ r. ⌜ r ≡ dayAnswer (store (now (words .entry)) (now (bytes .entry))) day (now (area .entry))
+        (windowsIn (now (w .entry))) e ⌝ }
     ensures { λ _. ⌜ now (words .exit)
         ≡ timedStore (store (now (words .entry)) (now (bytes .entry))) day (now (area .entry)) (windowsIn (now (w .entry))) e .words ⌝ }
     ensures { λ _. ⌜ now (bytes .exit)

@@ -1,14 +1,14 @@
 // Where each number of a site stands in its words and bytes (specs/Layout). No other file has these offsets as numbers.
 
 // The words and the bytes of a node.
-pub(crate) const ROW: usize = 8;
+pub(crate) const NODE_WORDS: usize = 8;
 
-pub(crate) const ROOM: usize = 773;
+pub(crate) const NODE_BYTES: usize = 773;
 
 // Where the lists of a node start among its bytes: R', C_e, and its two schedules, each as masks.
 pub(crate) const KNOWN: usize = 5;
 
-pub(crate) const COUNTS: usize = 37;
+pub(crate) const COUNTERS: usize = 37;
 
 pub(crate) const SCHEDULE: usize = 69;
 

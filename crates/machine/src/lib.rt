@@ -2,7 +2,7 @@
 ghost use mathlib.Core.Path.{_≡_};
 ghost use Prim.Native.Nat.{min};
 ghost use Prim.Native.Nat.{_<_};
-ghost use Rattle.machine.specs.hours.Hours.{nextEpoch};
+ghost use Rattle.machine.specs.hours.Hours.{nextInDay};
 ghost use lib.ListN.{length};
 
 mod acts;
@@ -30,11 +30,10 @@ pub use layout::BYTES;
 pub use layout::SENT;
 pub use layout::WORDS;
 pub use load::fresh;
-pub use look::channel;
 pub use look::core;
+pub use look::header;
 pub use look::is_live;
 pub use look::live;
-pub use look::owners;
 pub use look::phase;
 pub use look::set_free;
 pub use look::slots_held;
@@ -54,7 +53,7 @@ pub struct Day {
 }
 
 // An answer with the day after it; after a refusal the day as it was.
-pub struct Turned {
+pub struct DayAnswer {
     pub answer: Answer,
     pub day: Day,
 }
@@ -62,7 +61,7 @@ pub struct Turned {
 impl Day {
     // After D - 1 comes 0.
     fn next(self) -> Day
-        ensures { λ r. ⌜ r ≡ nextEpoch self ⌝ }
+        ensures { λ r. ⌜ r ≡ nextInDay self ⌝ }
     {
         if self.length <= self.epoch {
             return Day {
@@ -84,18 +83,18 @@ impl Day {
 }
 
 // Whether a node reports, and its ground then.
-pub struct Told {
+pub struct NodeReport {
     pub live: bool,
     pub ground: Ground,
 }
 
 // What each of the nodes reports.
 pub struct Report {
-    pub told: [Told; 32],
+    pub told: [NodeReport; 32],
 }
 
 // An answer's number with the day and the tally after it; after a refusal they are as they were.
-pub struct Stepped {
+pub struct StepResult {
     pub code: u32,
     pub day: Day,
     pub tally: Tally,

@@ -54,8 +54,10 @@ fn loaded_core(f: Config, t: Table, i: usize) -> Core
 // The N nodes.
 fn put_nodes(words: &mut [u32], bytes: &mut [u8], f: Config, t: Table)
     requires { ⌜ (wordsSize ≤ length (now words)) × (bytesSize ≤ length (now bytes)) ⌝ }
-    ensures { λ _. ⌜ now (words .exit) ≡ iter (min (f .nodes) 32) (loadedAt f t) (store (now (words .entry)) (now (bytes .entry))) .words ⌝ }
-    ensures { λ _. ⌜ now (bytes .exit) ≡ iter (min (f .nodes) 32) (loadedAt f t) (store (now (words .entry)) (now (bytes .entry))) .bytes ⌝ }
+    ensures { λ _. ⌜ now (words .exit)
+        ≡ iter (min (f .nodes) 32) (loadedAt f t) (store (now (words .entry)) (now (bytes .entry))) .words ⌝ }
+    ensures { λ _. ⌜ now (bytes .exit)
+        ≡ iter (min (f .nodes) 32) (loadedAt f t) (store (now (words .entry)) (now (bytes .entry))) .bytes ⌝ }
 {
     let n = places(f.nodes) as usize;
     for i in 0..n {

@@ -1,35 +1,34 @@
 // A site by the numbers of its nodes: what it holds of each, and what is put there.
 ghost use mathlib.Core.Path.{_≡_};
 ghost use mathlib.Core.Bool.{not, _&&_};
-ghost use Rattle.allotment.specs.Allotment.{ownersOf};
 ghost use Rattle.node.specs.Core.{bare, coreOf};
 ghost use Rattle.node.specs.Figures.{isWaiting};
-ghost use Rattle.site.specs.Members.{seat, isLive, stateOf};
+ghost use Rattle.site.specs.Members.{nodeIndex, isLive, stateOf};
 ghost use Rattle.machine.specs.Layout.{store, upIn, phaseIn};
 ghost use Rattle.machine.specs.Written.{memberPut};
-ghost use Rattle.machine.specs.Loading.{noChannel, channelRead, memberRead, slotsRead, ownersTold};
-use crate::acts::no_place;
+ghost use Rattle.machine.specs.Loading.{noHeader, headerRead, memberRead, slotsRead, ownersTold};
+use crate::acts::no_node;
 use crate::layout::BYTES;
-use crate::layout::ROOM;
+use crate::layout::NODE_BYTES;
 use crate::layout::SCHEDULE;
 use crate::layout::WORDS;
-use crate::read::channel_at;
 use crate::read::core_at;
+use crate::read::header_at;
 use crate::read::own_slots;
 use crate::write::put_free;
 use node::Config;
 use node::Core;
 use node::Phase;
 use node::Setup;
-use site::Channel;
+use site::SiteHeader;
 use site::State;
 
 // What storage that is too short stands for.
-fn no_channel() -> Channel
-    ensures { λ r. ⌜ r ≡ noChannel ⌝ }
+fn no_header() -> SiteHeader
+    ensures { λ r. ⌜ r ≡ noHeader ⌝ }
 {
     let config = Config::none();
-    Channel {
+    SiteHeader {
         config,
         negotiates: true,
         place: 0,
@@ -38,13 +37,13 @@ fn no_channel() -> Channel
 }
 
 // What the site holds beside its members.
-pub fn channel(words: &[u32], bytes: &[u8]) -> Channel
-    ensures { λ r. ⌜ r ≡ channelRead (store (now (words .entry)) (now (bytes .entry))) ⌝ }
+pub fn header(words: &[u32], bytes: &[u8]) -> SiteHeader
+    ensures { λ r. ⌜ r ≡ headerRead (store (now (words .entry)) (now (bytes .entry))) ⌝ }
 {
     if (words.len() < WORDS) | (bytes.len() < BYTES) {
-        return no_channel();
+        return no_header();
     }
-    channel_at(words, bytes)
+    header_at(words, bytes)
 }
 
 // The core of node j. A number of none of the N nodes has a member that is down, here and in the next four.
@@ -58,20 +57,20 @@ pub fn core(words: &[u32], bytes: &[u8], j: u32) -> Core
         };
         return Core::restart(setup, 0, 0);
     }
-    let k = channel_at(words, bytes);
+    let k = header_at(words, bytes);
     if k.outside(j) {
         let f = k.config;
         let setup = Setup { node: j, config: f };
         return Core::restart(setup, 0, 0);
     }
-    core_at(words, bytes, site::seat(j))
+    core_at(words, bytes, site::node_index(j))
 }
 
 // Whether it is live.
 pub fn is_live(words: &[u32], bytes: &[u8], j: u32) -> bool
     ensures { λ r. ⌜ r ≡ isLive (memberRead (store (now (words .entry)) (now (bytes .entry))) j) ⌝ }
 {
-    if no_place(words, bytes, j) {
+    if no_node(words, bytes, j) {
         return false;
     }
     live(bytes, j)
@@ -84,34 +83,31 @@ pub fn slots_held(words: &[u32], bytes: &[u8], j: u32) -> u8
     if !is_live(words, bytes, j) {
         return 0;
     }
-    let i = site::seat(j);
-    own_slots(bytes, ROOM * i + SCHEDULE, i)
+    let i = site::node_index(j);
+    own_slots(bytes, NODE_BYTES * i + SCHEDULE, i)
 }
 
 // The owners of its own schedule's slots, from the masks to a place of an output; of a number of none of the N nodes nothing is written.
 pub fn tell_owners(words: &[u32], bytes: &[u8], j: u32, out: &mut [u8], to: usize)
     ensures { λ _. ⌜ now (out .exit) ≡ ownersTold (store (now (words .entry)) (now (bytes .entry))) j (now (out .entry)) to ⌝ }
 {
-    if no_place(words, bytes, j) {
+    if no_node(words, bytes, j) {
         return;
     }
-    masks::tell(bytes, ROOM * site::seat(j) + SCHEDULE, 32, out, to);
-}
-
-// The same owners, by value.
-pub fn owners(words: &[u32], bytes: &[u8], j: u32) -> [u8; 80]
-    ensures { λ r. ⌜ r ≡ ownersOf (memberRead (store (now (words .entry)) (now (bytes .entry))) j .node .schedule) ⌝ }
-{
-    let mut l = [0u8; 80];
-    tell_owners(words, bytes, j, &mut l, 0);
-    l
+    masks::tell(
+        bytes,
+        NODE_BYTES * site::node_index(j) + SCHEDULE,
+        32,
+        out,
+        to,
+    );
 }
 
 // What the listing says of it.
 pub fn state(words: &[u32], bytes: &[u8], j: u32) -> State
     ensures { λ r. ⌜ r ≡ stateOf (memberRead (store (now (words .entry)) (now (bytes .entry))) j) ⌝ }
 {
-    if no_place(words, bytes, j) {
+    if no_node(words, bytes, j) {
         return State::Down;
     }
     if live(bytes, j) {
@@ -125,21 +121,21 @@ pub fn state(words: &[u32], bytes: &[u8], j: u32) -> State
 
 // Whether node j is up; the first stands in for a number of none, here and in the next two.
 pub fn up(bytes: &[u8], j: u32) -> bool
-    ensures { λ r. ⌜ r ≡ upIn (now (bytes .entry)) (seat j) ⌝ }
+    ensures { λ r. ⌜ r ≡ upIn (now (bytes .entry)) (nodeIndex j) ⌝ }
 {
-    lists::byte(bytes, ROOM * site::seat(j)) == 1
+    lists::byte(bytes, NODE_BYTES * site::node_index(j)) == 1
 }
 
 // Its phase.
 pub fn phase(bytes: &[u8], j: u32) -> Phase
-    ensures { λ r. ⌜ r ≡ phaseIn (now (bytes .entry)) (seat j) ⌝ }
+    ensures { λ r. ⌜ r ≡ phaseIn (now (bytes .entry)) (nodeIndex j) ⌝ }
 {
-    wire::phase_of(lists::byte(bytes, ROOM * site::seat(j) + 3))
+    wire::phase_of(lists::byte(bytes, NODE_BYTES * site::node_index(j) + 3))
 }
 
 // Whether it is up and doesn't wait.
 pub fn live(bytes: &[u8], j: u32) -> bool
-    ensures { λ r. ⌜ r ≡ (upIn (now (bytes .entry)) (seat j) && not (isWaiting (phaseIn (now (bytes .entry)) (seat j)))) ⌝ }
+    ensures { λ r. ⌜ r ≡ (upIn (now (bytes .entry)) (nodeIndex j) && not (isWaiting (phaseIn (now (bytes .entry)) (nodeIndex j)))) ⌝ }
 {
     let p = phase(bytes, j);
     up(bytes, j) & !node::is_waiting(p)
@@ -155,9 +151,9 @@ pub fn set_free(words: &mut [u32], bytes: &mut [u8], j: u32, up: bool, c: Core)
     if (words.len() < WORDS) | (bytes.len() < BYTES) {
         return;
     }
-    let k = channel_at(words, bytes);
+    let k = header_at(words, bytes);
     if k.outside(j) {
         return;
     }
-    put_free(words, bytes, site::seat(j), up, c);
+    put_free(words, bytes, site::node_index(j), up, c);
 }

@@ -9,18 +9,18 @@ ghost use Rattle.masks.specs.Slots.{owns, ownersIn};
 ghost use Rattle.masks.specs.Bytes.{masksSize, masksIn};
 ghost use Rattle.allotment.specs.Allotment.{topSlots};
 ghost use Rattle.node.specs.Figures.{isWaiting};
-ghost use Rattle.site.specs.Members.{channelOf};
+ghost use Rattle.site.specs.Members.{headerOf};
 ghost use Rattle.machine.specs.Inner.{coreIn};
-ghost use Rattle.machine.specs.Layout.{store, configAt, rowAt, upIn, phaseIn, siteIn, wordsSize, bytesSize};
-use crate::layout::COUNTS;
+ghost use Rattle.machine.specs.Layout.{store, configAt, nodeWordsAt, upIn, phaseIn, siteIn, wordsSize, bytesSize};
+use crate::layout::COUNTERS;
 use crate::layout::KNOWN;
 use crate::layout::MIN_HEARD;
+use crate::layout::NODE_BYTES;
+use crate::layout::NODE_WORDS;
 use crate::layout::NODES;
 use crate::layout::PHASE;
 use crate::layout::PLACE;
-use crate::layout::ROOM;
 use crate::layout::ROUNDS;
-use crate::layout::ROW;
 use crate::layout::SENT;
 use crate::layout::SLOTS;
 use crate::layout::SPLIT;
@@ -29,7 +29,7 @@ use node::Core;
 use node::Phase;
 use node::Round;
 use node::Setup;
-use site::Channel;
+use site::SiteHeader;
 
 // 32 bytes at a place.
 pub(crate) fn short_at(s: &[u8], at: usize) -> [u8; 32]
@@ -60,9 +60,9 @@ pub(crate) fn config_at(words: &[u32]) -> Config
 // The version of the node at an index.
 pub(crate) fn version_at(words: &[u32], i: usize) -> u32
     requires { ⌜ (i < 32) × (wordsSize ≤ length (now words)) ⌝ }
-    ensures { λ r. ⌜ r ≡ getD (now (words .entry)) (rowAt i) 0 ⌝ }
+    ensures { λ r. ⌜ r ≡ getD (now (words .entry)) (nodeWordsAt i) 0 ⌝ }
 {
-    words[ROW * i]
+    words[NODE_WORDS * i]
 }
 
 // The core of the node whose numbers stand at an index, of a site whose figures were read before: a close or an end reads them once.
@@ -70,10 +70,10 @@ pub(crate) fn core_with(words: &[u32], bytes: &[u8], i: usize, config: Config) -
     requires { ⌜ (i < 32) × (wordsSize ≤ length (now words)) × (bytesSize ≤ length (now bytes)) × (config ≡ configAt (now words)) ⌝ }
     ensures { λ r. ⌜ r ≡ coreIn (store (now (words .entry)) (now (bytes .entry))) i ⌝ }
 {
-    let row = ROW * i;
-    let room = ROOM * i;
+    let row = NODE_WORDS * i;
+    let room = NODE_BYTES * i;
     let known = short_at(bytes, room + KNOWN);
-    let counts = short_at(bytes, room + COUNTS);
+    let counters = short_at(bytes, room + COUNTERS);
     Core {
         setup: Setup {
             node: i as u32 + 1,
@@ -90,8 +90,8 @@ pub(crate) fn core_with(words: &[u32], bytes: &[u8], i: usize, config: Config) -
             highest: words[row + 4],
             heard: words[row + 5],
         },
-        counts,
-        met: words[row + 6],
+        counters,
+        interactions: words[row + 6],
         place: words[row + 7],
         updated: bytes[room + 4] == 1,
         phase: wire::phase_of(bytes[room + 3]),
@@ -125,13 +125,13 @@ pub(crate) fn own_slots(bytes: &[u8], at: usize, i: usize) -> u8
 }
 
 // What a site holds beside its members.
-pub(crate) fn channel_at(words: &[u32], bytes: &[u8]) -> Channel
+pub(crate) fn header_at(words: &[u32], bytes: &[u8]) -> SiteHeader
     requires { ⌜ (wordsSize ≤ length (now words)) × (bytesSize ≤ length (now bytes)) ⌝ }
-    ensures { λ r. ⌜ r ≡ channelOf (siteIn (store (now (words .entry)) (now (bytes .entry)))) ⌝ }
+    ensures { λ r. ⌜ r ≡ headerOf (siteIn (store (now (words .entry)) (now (bytes .entry)))) ⌝ }
 {
     let sent = short_at(bytes, SENT);
     let config = config_at(words);
-    Channel {
+    SiteHeader {
         config,
         negotiates: bytes[PHASE] == 1,
         place: words[PLACE],
@@ -144,7 +144,7 @@ pub(crate) fn is_up(bytes: &[u8], i: usize) -> bool
     requires { ⌜ (i < 32) × (bytesSize ≤ length (now bytes)) ⌝ }
     ensures { λ r. ⌜ r ≡ upIn (now (bytes .entry)) i ⌝ }
 {
-    bytes[ROOM * i] == 1
+    bytes[NODE_BYTES * i] == 1
 }
 
 // Its phase.
@@ -152,7 +152,7 @@ pub(crate) fn phase_at(bytes: &[u8], i: usize) -> Phase
     requires { ⌜ (i < 32) × (bytesSize ≤ length (now bytes)) ⌝ }
     ensures { λ r. ⌜ r ≡ phaseIn (now (bytes .entry)) i ⌝ }
 {
-    wire::phase_of(bytes[ROOM * i + 3])
+    wire::phase_of(bytes[NODE_BYTES * i + 3])
 }
 
 // Whether it is up and doesn't wait.

@@ -3,9 +3,11 @@ ghost use mathlib.Core.Path.{_≡_};
 ghost use mathlib.Core.Bool.{true, false};
 ghost use Rattle.machine.specs.Layout.{store, tooShort, siteIn};
 ghost use Rattle.machine.specs.Loading.{memberRead};
-ghost use Rattle.machine.specs.reports.Reports.{untold, toldBy, reportOf, reportedIn, toldIn, toldByte, reportBytes, putReport};
+ghost use Rattle.machine.specs.reports.Reports.{noNodeReport, memberReport, reportOf, reportedIn, nodeReportIn, reportByte};
+ghost use Rattle.machine.specs.reports.Reports.{reportBytes};
+ghost use Rattle.machine.specs.reports.Reports.{putReport};
+use crate::NodeReport;
 use crate::Report;
-use crate::Told;
 use node::Ground;
 use node::Rule;
 use site::Event;
@@ -14,10 +16,10 @@ use site::Event;
 pub const SIZE: usize = 64;
 
 // A node that reports nothing.
-pub fn nothing() -> Told
-    ensures { λ r. ⌜ r ≡ untold ⌝ }
+pub fn nothing() -> NodeReport
+    ensures { λ r. ⌜ r ≡ noNodeReport ⌝ }
 {
-    Told {
+    NodeReport {
         live: false,
         ground: Ground {
             rule: Rule::RequestMissing,
@@ -27,13 +29,13 @@ pub fn nothing() -> Told
 }
 
 // What node j reports of an accepted close: a live node its ground, any other nothing.
-fn tell(words: &[u32], bytes: &[u8], j: u32) -> Told
-    ensures { λ r. ⌜ r ≡ toldBy true (memberRead (store (now (words .entry)) (now (bytes .entry))) j) ⌝ }
+fn tell(words: &[u32], bytes: &[u8], j: u32) -> NodeReport
+    ensures { λ r. ⌜ r ≡ memberReport true (memberRead (store (now (words .entry)) (now (bytes .entry))) j) ⌝ }
 {
     if crate::look::is_live(words, bytes, j) {
         let c = crate::look::core(words, bytes, j);
         let ground = c.ground();
-        return Told { live: true, ground };
+        return NodeReport { live: true, ground };
     }
     nothing()
 }
@@ -49,8 +51,8 @@ fn reports(words: &[u32], bytes: &[u8], area: &[u8], e: Event) -> bool
 }
 
 // What node j reports of an event, were it the next one; nothing is written.
-pub fn told_of(words: &[u32], bytes: &[u8], area: &[u8], e: Event, j: u32) -> Told
-    ensures { λ r. ⌜ r ≡ toldIn (store (now (words .entry)) (now (bytes .entry))) (now (area .entry)) e j ⌝ }
+pub fn node_report(words: &[u32], bytes: &[u8], area: &[u8], e: Event, j: u32) -> NodeReport
+    ensures { λ r. ⌜ r ≡ nodeReportIn (store (now (words .entry)) (now (bytes .entry))) (now (area .entry)) e j ⌝ }
 {
     if !reports(words, bytes, area, e) {
         return nothing();
@@ -72,8 +74,8 @@ fn tell_all(words: &[u32], bytes: &[u8]) -> Report
 }
 
 // Of the two bytes of a node the one at k: the rule's number, or the lowest missing node.
-fn told_byte(t: Told, k: usize) -> u8
-    ensures { λ r. ⌜ r ≡ toldByte t k ⌝ }
+fn report_byte(t: NodeReport, k: usize) -> u8
+    ensures { λ r. ⌜ r ≡ reportByte t k ⌝ }
 {
     let g = t.ground;
     if k != 0 {
@@ -94,7 +96,7 @@ fn report_bytes(r: Report) -> [u8; 64]
     let mut l = [0u8; 64];
     for k in 0..64usize {
         let t = told[k / 2];
-        l[k] = told_byte(t, k % 2);
+        l[k] = report_byte(t, k % 2);
     }
     l
 }

@@ -7,8 +7,8 @@ ghost use Rattle.machine.specs.steps.After.{storageAnswer, storeAfter, s
 use crate::BYTES;
 use crate::WORDS;
 use node::Answer;
-use site::Channel;
 use site::Event;
+use site::SiteHeader;
 
 // The answer that a step would give; nothing is written. Refused as 15 where words, bytes or area are too few.
 pub fn answer_to(words: &[u32], bytes: &[u8], area: &[u8], e: Event) -> Answer
@@ -20,7 +20,7 @@ pub fn answer_to(words: &[u32], bytes: &[u8], area: &[u8], e: Event) -> Answer
     if bytes.len() < BYTES {
         return Answer::NoRoom;
     }
-    if area.len() < Channel::AREA {
+    if area.len() < SiteHeader::AREA {
         return Answer::NoRoom;
     }
     crate::answers::answer(words, bytes, area, e)
@@ -46,7 +46,8 @@ pub fn step(words: &mut [u32], bytes: &mut [u8], area: &mut [u8], e: Event) -> A
 // A send of node j whose packet goes into the part of an index: the answer.
 pub fn send_into(words: &[u32], bytes: &mut [u8], area: &mut [u8], at: u32, j: u32) -> Answer
     ensures { λ r. ⌜ r ≡ storageAnswer (store (now (words .entry)) (now (bytes .entry))) (now (area .entry)) (Send j) ⌝ }
-    ensures { λ _. ⌜ now (bytes .exit) ≡ storeAfter (store (now (words .entry)) (now (bytes .entry))) (now (area .entry)) (Send j) .bytes ⌝ }
+    ensures { λ _. ⌜ now (bytes .exit)
+        ≡ storeAfter (store (now (words .entry)) (now (bytes .entry))) (now (area .entry)) (Send j) .bytes ⌝ }
     ensures { λ _. ⌜ now (area .exit) ≡ areaInto (store (now (words .entry)) (now (bytes .entry))) (now (area .entry)) at j ⌝ }
 {
     let answer = answer_to(words, bytes, area, Event::Send(j));

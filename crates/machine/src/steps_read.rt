@@ -2,13 +2,13 @@
 ghost use mathlib.Core.Path.{_≡_};
 ghost use Prim.Native.Nat.{_≤_};
 ghost use lib.ListN.{length};
-ghost use Rattle.site.specs.Members.{channelOf};
+ghost use Rattle.site.specs.Members.{headerOf};
 ghost use Rattle.machine.specs.Layout.{store, siteIn, wordsSize, bytesSize};
-use site::Channel;
+use site::SiteHeader;
 
-pub(crate) fn channel_at(words: &[u32], bytes: &[u8]) -> Channel
+pub(crate) fn header_at(words: &[u32], bytes: &[u8]) -> SiteHeader
     requires { ⌜ (wordsSize ≤ length (now words)) × (bytesSize ≤ length (now bytes)) ⌝ }
-    ensures { λ r. ⌜ r ≡ channelOf (siteIn (store (now (words .entry)) (now (bytes .entry)))) ⌝ }
+    ensures { λ r. ⌜ r ≡ headerOf (siteIn (store (now (words .entry)) (now (bytes .entry)))) ⌝ }
 {
-    crate::look::channel(words, bytes)
+    crate::look::header(words, bytes)
 }

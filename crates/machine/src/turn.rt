@@ -5,36 +5,36 @@ ghost use Prim.Native.Nat.{_≤_};
 ghost use lib.ListN.{length};
 ghost use Rattle.windows.specs.Copies.{windowsIn};
 ghost use Rattle.machine.specs.Layout.{store, siteIn, wordsSize, bytesSize};
-ghost use Rattle.machine.specs.turn.Kept.{firstOf};
-ghost use Rattle.machine.specs.turn.Stored.{keptIn, noPlace, tooFew, stepStore, stepReport, stepKept, stepped};
+ghost use Rattle.machine.specs.turn.Kept.{firstRefusal};
+ghost use Rattle.machine.specs.turn.Stored.{keptIn, reportTooShort, lentTooShort, stepStore, stepReport, stepKept, stepResult};
 ghost use Rattle.machine.specs.turn.Inner.{objection, tallyBehind};
 use crate::BYTES;
 use crate::Day;
-use crate::Stepped;
+use crate::StepResult;
 use crate::WORDS;
 use node::Answer;
-use site::Channel;
 use site::Event;
+use site::SiteHeader;
 use tally::Tally;
 
 // Whether an output has bytes, and too few for a report.
-pub fn no_place(out: &[u8]) -> bool
-    ensures { λ r. ⌜ r ≡ noPlace (now (out .entry)) ⌝ }
+pub fn report_too_short(out: &[u8]) -> bool
+    ensures { λ r. ⌜ r ≡ reportTooShort (now (out .entry)) ⌝ }
 {
     (out.len() != 0) & (out.len() < crate::reports::SIZE)
 }
 
 // Whether anything that is lent is too short.
 pub fn too_few(words: &[u32], bytes: &[u8], area: &[u8], out: &[u8]) -> bool
-    ensures { λ r. ⌜ r ≡ tooFew (store (now (words .entry)) (now (bytes .entry))) (now (area .entry)) (now (out .entry)) ⌝ }
+    ensures { λ r. ⌜ r ≡ lentTooShort (store (now (words .entry)) (now (bytes .entry))) (now (area .entry)) (now (out .entry)) ⌝ }
 {
     let short = (words.len() < WORDS) | (bytes.len() < BYTES);
-    short | ((area.len() < Channel::AREA) | no_place(out))
+    short | ((area.len() < SiteHeader::AREA) | report_too_short(out))
 }
 
 // The first of two answers that refuses.
 pub fn first_of(a: Answer, b: Answer) -> Answer
-    ensures { λ r. ⌜ r ≡ firstOf a b ⌝ }
+    ensures { λ r. ⌜ r ≡ firstRefusal a b ⌝ }
 {
     if node::is_done(a) {
         return b;
@@ -53,7 +53,7 @@ fn objection(words: &[u32], bytes: &[u8], day: Day, e: Event, w: &[u32], t: Tall
         }
         return Answer::NotANode;
     }
-    let k = crate::look::channel(words, bytes);
+    let k = crate::look::header(words, bytes);
     let f = k.config;
     if windows::list_ok(w, f.nodes, day.length) {
         return Answer::Done;
@@ -82,8 +82,8 @@ pub fn step(
     w: &[u32],
     t: Tally,
     out: &mut [u8],
-) -> Stepped
-    ensures { λ r. ⌜ r ≡ stepped (store (now (words .entry)) (now (bytes .entry))) day (now (area .entry)) (windowsIn (now (w .entry))) t
+) -> StepResult
+    ensures { λ r. ⌜ r ≡ stepResult (store (now (words .entry)) (now (bytes .entry))) day (now (area .entry)) (windowsIn (now (w .entry))) t
         (now (out .entry)) e ⌝ }
     ensures { λ _. ⌜ now (words .exit)
         ≡ stepStore (store (now (words .entry)) (now (bytes .entry))) day (now (area .entry)) (windowsIn (now (w .entry))) t
@@ -99,7 +99,7 @@ pub fn step(
         (now (out .entry)) e ⌝ }
 {
     if too_few(words, bytes, area, out) {
-        return Stepped {
+        return StepResult {
             code: node::code(Answer::NoRoom),
             day,
             tally: t,
@@ -108,7 +108,7 @@ pub fn step(
     let o = objection(words, bytes, day, e, w, t);
     if !node::is_done(o) {
         let a = crate::steps::answer_to(words, bytes, area, e);
-        return Stepped {
+        return StepResult {
             code: node::code(first_of(a, o)),
             day,
             tally: t,
@@ -119,7 +119,7 @@ pub fn step(
     let a = r.answer;
     let next = r.day;
     let tally = tally_behind(words, bytes, e, a, t);
-    Stepped {
+    StepResult {
         code: node::code(a),
         day: next,
         tally,

@@ -6,14 +6,14 @@ ghost use lib.ListN.{length};
 ghost use Rattle.lists.specs.Bytes.{written};
 ghost use Rattle.node.specs.Core.{bare};
 ghost use Rattle.node.specs.InPlace.{movedIn};
-ghost use Rattle.machine.specs.Layout.{store, rowAt, roomAt, schedulesAt, rowOf, frontOf, wordsSize, bytesSize};
+ghost use Rattle.machine.specs.Layout.{store, nodeWordsAt, nodeBytesAt, schedulesAt, nodeWords, storedFront, wordsSize, bytesSize};
 ghost use Rattle.machine.specs.Inner.{memberOf};
 ghost use Rattle.machine.specs.Written.{writtenFront, writtenFree, phased};
-use crate::layout::COUNTS;
+use crate::layout::COUNTERS;
 use crate::layout::KNOWN;
+use crate::layout::NODE_BYTES;
+use crate::layout::NODE_WORDS;
 use crate::layout::PHASE;
-use crate::layout::ROOM;
-use crate::layout::ROW;
 use crate::layout::SCHEDULE;
 use crate::layout::SENT;
 use node::Core;
@@ -62,12 +62,12 @@ pub(crate) fn put_short(out: &mut [u8], at: usize, l: [u8; 32])
 // A core's words; its setup has none.
 pub(crate) fn put_row(words: &mut [u32], i: usize, c: Core)
     requires { ⌜ (i < 32) × (wordsSize ≤ length (now words)) ⌝ }
-    ensures { λ _. ⌜ now (words .exit) ≡ written (now (words .entry)) (rowAt i) (rowOf (bare c)) ⌝ }
+    ensures { λ _. ⌜ now (words .exit) ≡ written (now (words .entry)) (nodeWordsAt i) (nodeWords (bare c)) ⌝ }
 {
     let r = c.round;
     put_eight(
         words,
-        ROW * i,
+        NODE_WORDS * i,
         [
             c.version,
             c.flags,
@@ -75,7 +75,7 @@ pub(crate) fn put_row(words: &mut [u32], i: usize, c: Core)
             r.lowest,
             r.highest,
             r.heard,
-            c.met,
+            c.interactions,
             c.place,
         ],
     );
@@ -84,11 +84,11 @@ pub(crate) fn put_row(words: &mut [u32], i: usize, c: Core)
 // A core's bytes, and whether its node is up.
 pub(crate) fn put_front(bytes: &mut [u8], i: usize, up: bool, c: Core)
     requires { ⌜ (i < 32) × (bytesSize ≤ length (now bytes)) ⌝ }
-    ensures { λ _. ⌜ now (bytes .exit) ≡ written (now (bytes .entry)) (roomAt i) (frontOf (memberOf up (bare c))) ⌝ }
+    ensures { λ _. ⌜ now (bytes .exit) ≡ written (now (bytes .entry)) (nodeBytesAt i) (storedFront (memberOf up (bare c))) ⌝ }
 {
     let r = c.round;
     let known = r.known;
-    let counts = c.counts;
+    let counters = c.counters;
     let phase = c.phase;
     let small = [
         up as u8,
@@ -97,17 +97,19 @@ pub(crate) fn put_front(bytes: &mut [u8], i: usize, up: bool, c: Core)
         wire::phase_byte(phase),
         c.updated as u8,
     ];
-    let room = ROOM * i;
+    let room = NODE_BYTES * i;
     put_small(bytes, room, small);
     put_short(bytes, room + KNOWN, known);
-    put_short(bytes, room + COUNTS, counts);
+    put_short(bytes, room + COUNTERS, counters);
 }
 
 // A core's numbers at an index, where its node is up.
 pub(crate) fn put_core(words: &mut [u32], bytes: &mut [u8], i: usize, c: Core)
     requires { ⌜ (i < 32) × (wordsSize ≤ length (now words)) × (bytesSize ≤ length (now bytes)) ⌝ }
-    ensures { λ _. ⌜ now (words .exit) ≡ writtenFront (store (now (words .entry)) (now (bytes .entry))) i (memberOf true (bare c)) .words ⌝ }
-    ensures { λ _. ⌜ now (bytes .exit) ≡ writtenFront (store (now (words .entry)) (now (bytes .entry))) i (memberOf true (bare c)) .bytes ⌝ }
+    ensures { λ _. ⌜ now (words .exit)
+        ≡ writtenFront (store (now (words .entry)) (now (bytes .entry))) i (memberOf true (bare c)) .words ⌝ }
+    ensures { λ _. ⌜ now (bytes .exit)
+        ≡ writtenFront (store (now (words .entry)) (now (bytes .entry))) i (memberOf true (bare c)) .bytes ⌝ }
 {
     put_row(words, i, c);
     put_front(bytes, i, true, c);
@@ -121,7 +123,7 @@ pub(crate) fn move_schedules(bytes: &mut [u8], i: usize, change: Move, before: C
     if change.keeps() {
         return;
     }
-    before.move_at(bytes, ROOM * i + SCHEDULE, change);
+    before.move_at(bytes, NODE_BYTES * i + SCHEDULE, change);
 }
 
 // A core's numbers at an index, with all slots free.
@@ -132,7 +134,7 @@ pub(crate) fn put_free(words: &mut [u32], bytes: &mut [u8], i: usize, up: bool, 
 {
     put_row(words, i, c);
     put_front(bytes, i, up, c);
-    c.move_at(bytes, ROOM * i + SCHEDULE, Move::Free);
+    c.move_at(bytes, NODE_BYTES * i + SCHEDULE, Move::Free);
 }
 
 // Another phase: no packets, and 1 in negotiation.

@@ -1,4 +1,4 @@
--- The counts of tidy masks: their sum, and counts and sums taken entry by entry over a list.
+-- The counts of well-formed masks: their sum, and counts and sums taken entry by entry over a list.
 -- Assumes nothing.
 use mathlib.Core.Path.{_≡_, refl, sym, ap, ap₂, _∙_}
 use mathlib.Core.Bool.{Bool, true}
@@ -12,7 +12,7 @@ use Rattle.words.specs.Bits.{digit, howMany}
 use Rattle.words.proofs.Tests.{same-or-not}
 use Rattle.words.proofs.Laws.{howMany-ext}
 use Rattle.masks.specs.Slots.{Masks}
-use Rattle.masks.specs.Slots.{countOf, ownerIn, ownersIn, owns, tidy}
+use Rattle.masks.specs.Slots.{countOf, ownerIn, ownersIn, owns, wellFormed}
 use Rattle.masks.proofs.Turns.{howMany-zero}
 use Rattle.masks.proofs.Owners.{Sized, owner-at, owner-le}
 use Rattle.masks.proofs.Tidy.{count-owned}
@@ -63,7 +63,7 @@ sum-owned n (suc s) f h = sum-more n s (λ i k. eqb (f k) (i + 1))
     ∙ ap₂ _+_ (number-once n (f s) (h s (omega arith))) (sum-owned n s f (λ k l. h k (omega arith)))
 
 -- the counts add to the number of slots with an owner
-pub counts-sum : (m : Masks) → Sized m → tidy m ≡ true → sum 32 (countOf m) ≡ howMany 80 (λ k. ltb 0 (ownerIn m k))
+pub counts-sum : (m : Masks) → Sized m → wellFormed m ≡ true → sum 32 (countOf m) ≡ howMany 80 (λ k. ltb 0 (ownerIn m k))
 counts-sum m z t =
     sum-ext 32 (countOf m) (λ i. howMany 80 (λ k. eqb (ownerIn m k) (i + 1)))
     (λ i l. count-owned m t z i l ∙ howMany-ext 80 (owns (ownersIn m) i) (λ k. eqb (ownerIn m k) (i + 1))

@@ -1,4 +1,4 @@
--- Masks tested where they stand: tidy, no node from n up has a slot, and all of them together have none from k up. Then so are their
+-- Masks tested where they stand: well formed, no node from n up has a slot, and all of them together have none from k up. Then so are their
 -- owners.
 -- Assumes nothing.
 use mathlib.Core.Path.{_≡_, refl, sym, ap, ap₂, _∙_, subst}
@@ -24,7 +24,8 @@ use Rattle.lists.specs.Bytes.{span}
 use Rattle.lists.proofs.Bounded.{bounded-at, bounded-over, bounded-make, zeros-bounded}
 use Rattle.lists.proofs.Laws.{iter-still, all-at, all-make}
 use Rattle.masks.specs.Slots.{Masks}
-use Rattle.masks.specs.Slots.{lowOf, highOf, countOf, hasSlot, holds, ownerIn, ownersIn, owns, noOwners, apart, counted, tidyAt, tidy}
+use Rattle.masks.specs.Slots.{lowOf, highOf, countOf, hasSlot, holds, ownerIn, ownersIn, owns, noOwners, apart, countRight}
+use Rattle.masks.specs.Slots.{wellFormedAt, wellFormed}
 use Rattle.masks.specs.Bytes.{masksSize, masksIn, fitting, blankAt, restBlank}
 use Rattle.masks.specs.Inner.{taken, endsBy, rowsFit}
 use Rattle.masks.proofs.Bits.{no-bits}
@@ -166,7 +167,7 @@ module _ (m : Masks) (z : Sized m) (k n : ℕ) where
   high-fits : taken (m .high) 32 < 2 ^ 16
   high-fits = taken-fits (m .high) 32 16 (z .high-fits)
 
-  module _ (t : tidy m ≡ true) where
+  module _ (t : wellFormed m ≡ true) where
     -- an owner holds its slot
     hers : (s : ℕ) → s < 80 → (0 < ownerIn m s) → holds m (ownerIn m s - 1) s ≡ true
     hers s l p = holds-owner m t (ownerIn m s - 1) s (omega (arith, owner-le m s)) l
@@ -228,11 +229,11 @@ module _ (m : Masks) (z : Sized m) (k n : ℕ) where
         (λ i h. holds-owner m t i s h b ∙ ne-eqb (ownerIn m s) (i + 1)
         (λ q. omega (arith, q, sym (owner-at m s b) ∙ bounded-over (ownersIn m) k n e s l))))
 
-  pub fits-is : (tidy m && (few && ends)) ≡ fitting m k n
+  pub fits-is : (wellFormed m && (few && ends)) ≡ fitting m k n
   unfolding fitting
-  fits-is = go (tidy m) refl
+  fits-is = go (wellFormed m) refl
     where
-      go : (t : Bool) → tidy m ≡ t → (t && (few && ends)) ≡ (t && bounded (ownersIn m) k n)
+      go : (t : Bool) → wellFormed m ≡ t → (t && (few && ends)) ≡ (t && bounded (ownersIn m) k n)
       go true t = iff (few && ends) (bounded (ownersIn m) k n) (λ e. there t (and-left few ends e) (and-right few ends e))
           (λ e. both (back-few t e) (back-ends t e))
       go false t = refl
@@ -263,8 +264,8 @@ module _ (m : Masks) (z : Sized m) (k n : ℕ) where
         let h : top ≤ 32 = omega (arith, e) in
         sym (ap₂ (λ (x y : ℕ). endsBy x y k) (taken-rest (m .low) top h (low-none r)) (taken-rest (m .high) top h (high-none r)))
 
-    -- a node that has nothing is tidy
-    none-tidy : restBlank m top ≡ true → (i : ℕ) → i < 32 → top ≤ i → tidyAt m i ≡ true
+    -- a node that has nothing is well formed
+    none-tidy : restBlank m top ≡ true → (i : ℕ) → i < 32 → top ≤ i → wellFormedAt m i ≡ true
     unfolding ones
     none-tidy r i l t =
         both
@@ -273,23 +274,23 @@ module _ (m : Masks) (z : Sized m) (k n : ℕ) where
         (eq-eqb _ 0 (ap (Bits.bitAnd (highOf m j)) (high-none r i t) ∙ and-zero-r (highOf m j)))))
         (eq-eqb _ _ (count-none r i l t ∙ sym (ap₂ (λ (x y : ℕ). ones x + ones y) (low-none r i t) (high-none r i t))))
 
-    rows-there : rowsFit m top k ≡ true → restBlank m top ≡ true → (tidy m && (few && ends)) ≡ true
-    unfolding tidy
+    rows-there : rowsFit m top k ≡ true → restBlank m top ≡ true → (wellFormed m && (few && ends)) ≡ true
+    unfolding wellFormed
     rows-there a r =
         both
-        (all-make 32 (tidyAt m) (λ i l.
-        by-test (λ (_ : ℕ). tidyAt m i ≡ true) (ltb i top) 0 0
-        (λ u. all-at top (tidyAt m) (and-left (allBelow top (tidyAt m)) _ a) i (ltb-true i top u))
+        (all-make 32 (wellFormedAt m) (λ i l.
+        by-test (λ (_ : ℕ). wellFormedAt m i ≡ true) (ltb i top) 0 0
+        (λ u. all-at top (wellFormedAt m) (and-left (allBelow top (wellFormedAt m)) _ a) i (ltb-true i top u))
         (λ u. none-tidy r i l (ltb-false i top u))))
         (both
         (all-make 32 fewAt (λ i l.
         by-test (λ (_ : ℕ). fewAt i ≡ true) (ltb i top) 0 0
         (λ u. or-front (ltb i n) (eqb (countOf m i) 0) (lt-ltb i n (omega (arith, ltb-true i top u, e))))
         (λ u. or-back (ltb i n) (eqb (countOf m i) 0) (eq-eqb (countOf m i) 0 (count-none r i l (ltb-false i top u))))))
-        (sym (ends-same r) ∙ and-right (allBelow top (tidyAt m)) _ a))
+        (sym (ends-same r) ∙ and-right (allBelow top (wellFormedAt m)) _ a))
 
-    rest-back : tidy m ≡ true → few ≡ true → restBlank m top ≡ true
-    unfolding tidy
+    rest-back : wellFormed m ≡ true → few ≡ true → restBlank m top ≡ true
+    unfolding wellFormed
     rest-back t f =
         all-make 32 (blankAt m top) (λ i l.
         by-test (λ (_ : ℕ). blankAt m top i ≡ true) (ltb i top) 0 0 (λ u. or-front (ltb i top) _ u)
@@ -298,32 +299,34 @@ module _ (m : Masks) (z : Sized m) (k n : ℕ) where
         let c : countOf m i ≡ 0 = eqb-true (countOf m i) 0
         (or-rest (ltb i n) _ (all-at 32 fewAt f i l) (le-ltb i n (omega (arith, e, g, l)))) in
         let o : countOf m i ≡ ones (lowOf m i) + ones (highOf m i) = eqb-true _ _
-        (and-right (allBelow i (λ j. apart m j i)) (counted m i) (all-at 32 (tidyAt m) t i l)) in
+        (and-right (allBelow i (λ j. apart m j i)) (countRight m i) (all-at 32 (wellFormedAt m) t i l)) in
         or-back (ltb i top) _
         (both (eq-eqb (lowOf m i) 0 (no-ones 64 (lowOf m i) (z .low-fits i l) (omega (arith, o, c))))
         (both (eq-eqb (highOf m i) 0 (no-ones 16 (highOf m i) (z .high-fits i l) (omega (arith, o, c)))) (eq-eqb (countOf m i) 0 c)))))
 
-    rows-back : tidy m ≡ true → few ≡ true → ends ≡ true → rowsFit m top k ≡ true
-    unfolding tidy
-    rows-back t f d = both (all-make top (tidyAt m) (λ i l. all-at 32 (tidyAt m) t i (omega (arith, l, e)))) (ends-same (rest-back t f) ∙ d)
+    rows-back : wellFormed m ≡ true → few ≡ true → ends ≡ true → rowsFit m top k ≡ true
+    unfolding wellFormed
+    rows-back t f d = both (all-make top (wellFormedAt m) (λ i l. all-at 32 (wellFormedAt m) t i (omega (arith, l, e))))
+        (ends-same (rest-back t f) ∙ d)
 
     pub first-fit : (rowsFit m top k && restBlank m top) ≡ fitting m k n
     first-fit =
-        iff (rowsFit m top k && restBlank m top) (tidy m && (few && ends))
+        iff (rowsFit m top k && restBlank m top) (wellFormed m && (few && ends))
         (λ a. rows-there (and-left (rowsFit m top k) _ a) (and-right (rowsFit m top k) _ a))
         (λ a.
-        let t = and-left (tidy m) _ a in
-        let f = and-left few ends (and-right (tidy m) _ a) in
-        let d = and-right few ends (and-right (tidy m) _ a) in
+        let t = and-left (wellFormed m) _ a in
+        let f = and-left few ends (and-right (wellFormed m) _ a) in
+        let d = and-right few ends (and-right (wellFormed m) _ a) in
         both (rows-back t f d) (rest-back t f))
         ∙ fits-is
 
--- one node that is not tidy
-pub rows-wrong : (m : Masks) (i top : ℕ) (t : Bool) → i < top → allBelow (i + 1) (tidyAt m) ≡ false → (allBelow top (tidyAt m) && t) ≡ false
+-- one node that is not well formed
+pub rows-wrong : (m : Masks) (i top : ℕ) (t : Bool) → i < top → allBelow (i + 1) (wellFormedAt m) ≡ false
+    → (allBelow top (wellFormedAt m) && t) ≡ false
 rows-wrong m i top t h e =
     ap (λ (x : Bool). x && t)
-    (only-if (allBelow top (tidyAt m)) (allBelow (i + 1) (tidyAt m))
-    (λ a. all-make (i + 1) (tidyAt m) (λ j l. all-at top (tidyAt m) a j (omega (arith, l, h)))) e)
+    (only-if (allBelow top (wellFormedAt m)) (allBelow (i + 1) (wellFormedAt m))
+    (λ a. all-make (i + 1) (wellFormedAt m) (λ j l. all-at top (wellFormedAt m) a j (omega (arith, l, h)))) e)
 
 -- bytes that are all 0 are masks that fit
 pub blank-fits : (l : List ℕ) (at k n : ℕ) → at + masksSize ≤ length l → bounded (span l at masksSize) 0 0 ≡ true
@@ -331,5 +334,6 @@ pub blank-fits : (l : List ℕ) (at k n : ℕ) → at + masksSize ≤ length l �
 unfolding fitting
 blank-fits l at k n h b =
     let e = no-masks l at h b in
-    both (ap tidy e ∙ made-tidy noOwners) (ap (λ (m : Masks). bounded (ownersIn m) k n) e ∙ ap (λ (o : List ℕ). bounded o k n) owners-none
+    both (ap wellFormed e ∙ made-tidy noOwners)
+    (ap (λ (m : Masks). bounded (ownersIn m) k n) e ∙ ap (λ (o : List ℕ). bounded o k n) owners-none
     ∙ zeros-bounded 80 k n)

@@ -235,7 +235,8 @@ module _ (o l : List ℕ) (at k r : ℕ) (room : at + masksSize ≤ length l) (i
           let y : ℕ = getD l (at + atHeld + r) 0 + 1 in
           let w : word64 l (at + 8 * r) ≡ wordOf k (owns o r) =
           low-read l at r h ∙ turn-at wordOf word-same (owns o) k r one (masksIn l at .low) (few-lows u) h in
-          let g : x ≡ wordOf (k + 1) (owns o r) = ap (λ (z : ℕ). Bits.bitOr z (2 ^ k)) w ∙ word-more k (owns o r) (one r h ∙ eq-eqb r r refl)
+          let g : x ≡ wordOf (k + 1) (owns o r) = ap (λ (z : ℕ). Bits.bitOr z (2 ^ k)) w
+          ∙ word-more k (owns o r) (one r h ∙ eq-eqb r r refl)
           in
           let s : k + 1 ≤ 64 = omega (arith, u) in
           let f : x < 2 ^ 64 = subst (λ (z : ℕ). z < 2 ^ 64) (sym g) (lt-of-lt-of-le (wordOf-lt (k + 1) (owns o r)) (pow-mono s)) in
@@ -258,7 +259,8 @@ module _ (o l : List ℕ) (at k r : ℕ) (room : at + masksSize ≤ length l) (i
           let s : k - 64 + 1 ≤ 16 = omega (arith, v) in
           let f : x < 2 ^ 16 = subst (λ (z : ℕ). z < 2 ^ 16) (sym g) (lt-of-lt-of-le (wordOf-lt (k - 64 + 1) (q r)) (pow-mono s)) in
           let m : List ℕ = written l (at + atHigh + 2 * r) (bytes16 x) in
-          let z : at + masksSize ≤ length m = omega (arith, length-written l (bytes16 x) (at + atHigh + 2 * r) (omega (arith, room, h)), room)
+          let z : at + masksSize ≤ length m =
+          omega (arith, length-written l (bytes16 x) (at + atHigh + 2 * r) (omega (arith, room, h)), room)
           in
           ap (λ (n : List ℕ). masksIn (set n (at + atHeld + r) y) at) (skip (ltb k 64) _ m m (le-ltb k 64 u) refl)
           ∙ count-put m at r z h y ∙ ap (λ (n : Masks). fromWords (n .low) (n .high) (set (n .counts) r y)) (high-put l at r room h x f)
@@ -266,7 +268,8 @@ module _ (o l : List ℕ) (at k r : ℕ) (room : at + masksSize ≤ length l) (i
           (turn-hit wordOf word-same q (k - 64) r (high-one u) (masksIn l at .high) highs h x g) counts-more
 
       turn-given : k < 80 → masksIn (marking l at r k) at ≡ masksTo o (k + 1)
-      turn-given v = by-test (λ (_ : ℕ). masksIn (marking l at r k) at ≡ masksTo o (k + 1)) (ltb k 64) 0 0 (λ t. given-low (ltb-true k 64 t))
+      turn-given v = by-test (λ (_ : ℕ). masksIn (marking l at r k) at ≡ masksTo o (k + 1)) (ltb k 64) 0 0
+          (λ t. given-low (ltb-true k 64 t))
           (λ t. given-high (ltb-false k 64 t) v)
 
 -- a turn of the loop

@@ -1,5 +1,5 @@
 -- The laws of masks: bits, the first that passes a test, words taken together, turns of loops; what owners and masks are of one another,
--- tidy masks, their counts, and a worked case; masks as bytes.
+-- well-formed masks, their counts, and a worked case; masks as bytes.
 pub mod Bits
 pub mod First
 pub mod Taken

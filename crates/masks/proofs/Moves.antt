@@ -23,10 +23,11 @@ use Rattle.lists.proofs.Places.{written-over, before-written, behind-written}
 use Rattle.masks.specs.Slots.{Masks}
 use Rattle.masks.specs.Slots.{lowOf, highOf, countOf, masksOf, noOwners}
 use Rattle.masks.specs.Bytes.{word64, bytes64, word16, bytes16, rows, masksSize, atHigh, atHeld, masksBytes, masksIn, noSlots}
-use Rattle.masks.specs.Bytes.{canCopy, firstOf, hasRoom, rowsUsed}
+use Rattle.masks.specs.Bytes.{canCopy, firstWords, hasRoom, rowsUsed}
 use Rattle.masks.specs.Bytes.{blankAt, restBlank}
 use Rattle.masks.proofs.Parts.{Bytes, list-then}
-use Rattle.masks.proofs.Rows.{length-rows, length-part, rows-more, rows-then, word64-back, word16-back, word64-then, word16-then, masks-then, low-read}
+use Rattle.masks.proofs.Rows.{length-rows, length-part, rows-more, rows-then, word64-back, word16-back, word64-then, word16-then}
+use Rattle.masks.proofs.Rows.{masks-then, low-read}
 use Rattle.masks.proofs.Rows.{high-read, count-read, zero-at, zeros-make, no-masks, low-past, high-past}
 use Rattle.masks.proofs.Fits.{iff}
 
@@ -186,14 +187,14 @@ module _ (f g : ℕ → List ℕ) (m n : ℕ) (same : (i : ℕ) → i < n → g 
       ∙ sym y
 
 -- the first n of 32 words, one by one
-pub first-in : (n : ℕ) (l : List ℕ) (i : ℕ) → n ≤ 32 → i < n → getD (firstOf n l) i 0 ≡ getD l i 0
-unfolding firstOf
+pub first-in : (n : ℕ) (l : List ℕ) (i : ℕ) → n ≤ 32 → i < n → getD (firstWords n l) i 0 ≡ getD l i 0
+unfolding firstWords
 first-in n l i h k = getD-tab 0 32 (λ i. cond (ltb i n) (getD l i 0) 0) i (omega (arith, h, k)) ∙ hit _ _ _ (lt-ltb i n k)
 
-pub first-out : (n : ℕ) (l : List ℕ) (i : ℕ) → n ≤ i → getD (firstOf n l) i 0 ≡ 0
-unfolding firstOf
+pub first-out : (n : ℕ) (l : List ℕ) (i : ℕ) → n ≤ i → getD (firstWords n l) i 0 ≡ 0
+unfolding firstWords
 first-out n l i h =
-    by-test (λ (_ : ℕ). getD (firstOf n l) i 0 ≡ 0) (ltb i 32) 0 0
+    by-test (λ (_ : ℕ). getD (firstWords n l) i 0 ≡ 0) (ltb i 32) 0 0
     (λ t. getD-tab 0 32 (λ i. cond (ltb i n) (getD l i 0) 0) i (ltb-true i 32 t) ∙ skip _ _ _ _ (le-ltb i n h) refl)
     (λ t. List·getD-eq-default (tab 32 (λ i. cond (ltb i n) (getD l i 0) 0)) 0 {n = i}
     (omega (arith, ltb-false i 32 t, length-tab 32 (λ i. cond (ltb i n) (getD l i 0) 0))))
@@ -217,24 +218,25 @@ module _ (b : ℕ → List ℕ) (m : ℕ) (long : (x : ℕ) → length (b x) ≡
   words-long i h e = ap length e ∙ length-part bytesAt m (λ j. long (getD w j 0)) z at i (omega (arith, h, wiped-long)) ∙ wiped-long
 
   pub words-end : {s : List ℕ} (i n : ℕ) → i ≡ n → n ≤ 32 → b 0 ≡ replicate m 0 → s ≡ written z at (rows i bytesAt)
-      → s ≡ written l at (rows 32 (λ j. b (getD (firstOf n w) j 0)))
+      → s ≡ written l at (rows 32 (λ j. b (getD (firstWords n w) j 0)))
   words-end i n e h none q =
       q ∙ ap (λ (x : ℕ). written z at (rows x bytesAt)) e ∙ ap (λ (x : List ℕ). written x at (rows n bytesAt)) wiped
-      ∙ rows-over bytesAt (λ j. b (getD (firstOf n w) j 0)) m n (λ j k. ap b (first-in n w j h k)) (λ j k. ap b (first-out n w j k) ∙ none)
+      ∙ rows-over bytesAt (λ j. b (getD (firstWords n w) j 0)) m n (λ j k. ap b (first-in n w j h k))
+      (λ j k. ap b (first-out n w j k) ∙ none)
       (λ j. long (getD w j 0)) l at 32 h room
 
 -- where the others are 0 anyway
-pub first-all : (n : ℕ) (l : List ℕ) → length l ≡ 32 → ((i : ℕ) → n ≤ i → getD l i 0 ≡ 0) → firstOf n l ≡ l
-unfolding firstOf
+pub first-all : (n : ℕ) (l : List ℕ) → length l ≡ 32 → ((i : ℕ) → n ≤ i → getD l i 0 ≡ 0) → firstWords n l ≡ l
+unfolding firstWords
 first-all n l e h =
-    ext-getD 0 (firstOf n l) l (length-tab 32 (λ i. cond (ltb i n) (getD l i 0) 0) ∙ sym e)
+    ext-getD 0 (firstWords n l) l (length-tab 32 (λ i. cond (ltb i n) (getD l i 0) 0) ∙ sym e)
     (λ i k.
     getD-tab 0 32 (λ i. cond (ltb i n) (getD l i 0) 0) i (omega (arith, k, length-tab 32 (λ i. cond (ltb i n) (getD l i 0) 0)))
     ∙ by-test (λ (_ : ℕ). cond (ltb i n) (getD l i 0) 0 ≡ getD l i 0) (ltb i n) 0 0 (λ t. hit _ _ _ t)
     (λ t. skip _ _ _ _ t (sym (h i (ltb-false i n t)))))
 
-pub first-min : (n : ℕ) (l : List ℕ) → firstOf (min n 32) l ≡ firstOf n l
-unfolding firstOf
+pub first-min : (n : ℕ) (l : List ℕ) → firstWords (min n 32) l ≡ firstWords n l
+unfolding firstWords
 first-min n l = tab-ext 32 _ _ (λ i k. ap (λ (t : Bool). cond t (getD l i 0) 0) (below i k))
   where
     below : (i : ℕ) → i < 32 → ltb i (min n 32) ≡ ltb i n

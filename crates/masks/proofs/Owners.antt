@@ -1,4 +1,4 @@
--- Owners and masks: what the one is of the other, and that tidy masks are known by their owners.
+-- Owners and masks: what the one is of the other, and that well-formed masks are known by their owners.
 -- Assumes nothing.
 use mathlib.Core.Path.{_≡_, refl, sym, ap, _∙_, subst}
 use mathlib.Core.List.{List}

@@ -16,7 +16,7 @@ use Rattle.words.proofs.Tests.{both, by-test, same-or-not, hit, skip, or-front,
 use Rattle.words.proofs.Laws.{hasBit-or}
 use Rattle.lists.proofs.Laws.{all-more}
 use Rattle.masks.specs.Slots.{Masks}
-use Rattle.masks.specs.Slots.{lowOf, highOf, countOf, hasSlot, holds, apart, tidyAt}
+use Rattle.masks.specs.Slots.{lowOf, highOf, countOf, hasSlot, holds, apart, wellFormedAt}
 use Rattle.masks.specs.Inner.{taken}
 use Rattle.masks.proofs.Bits.{shares-with, no-bits}
 
@@ -47,16 +47,16 @@ all-both (suc n) p q = and-swap (allBelow n p) (p n) (allBelow n q) (q n) ∙ ap
     and-swap true false false d = refl
     and-swap false b c d = refl
 
--- a turn of the test that masks are tidy: one node more
+-- a turn of the test that masks are well formed: one node more
 pub tidy-turn : (m : Masks) (i x y a b c n : ℕ) (t : Bool) → x ≡ taken (m .low) i → y ≡ taken (m .high) i → a ≡ lowOf m i → b ≡ highOf m i
-    → c ≡ countOf m i → n ≡ ones a + ones b → t ≡ allBelow i (tidyAt m)
-    → (t && ((eqb (Bits.bitAnd x a) 0 && eqb (Bits.bitAnd y b) 0) && eqb c n)) ≡ allBelow (i + 1) (tidyAt m)
+    → c ≡ countOf m i → n ≡ ones a + ones b → t ≡ allBelow i (wellFormedAt m)
+    → (t && ((eqb (Bits.bitAnd x a) 0 && eqb (Bits.bitAnd y b) 0) && eqb c n)) ≡ allBelow (i + 1) (wellFormedAt m)
 tidy-turn m i x y a b c n t ex ey ea eb ec en et =
     let each : (eqb (Bits.bitAnd x a) 0 && eqb (Bits.bitAnd y b) 0) ≡ allBelow i (λ j. apart m j i) =
     both (ap₂ (λ (u v : ℕ). eqb (Bits.bitAnd u v) 0) ex ea ∙ apart-each (m .low) i (lowOf m i))
     (ap₂ (λ (u v : ℕ). eqb (Bits.bitAnd u v) 0) ey eb ∙ apart-each (m .high) i (highOf m i))
     ∙ all-both i _ _ in
-    all-more (tidyAt m) i t _ et (both each (ap₂ eqb ec (en ∙ ap₂ (λ (u v : ℕ). ones u + ones v) ea eb)))
+    all-more (wellFormedAt m) i t _ et (both each (ap₂ eqb ec (en ∙ ap₂ (λ (u v : ℕ). ones u + ones v) ea eb)))
 
 pub taken-turn : (l : List ℕ) (n w a : ℕ) → w ≡ taken l n → a ≡ getD l n 0 → Bits.bitOr w a ≡ taken l (n + 1)
 taken-turn l n w a e f = ap (Bits.bitOr w) f ∙ taken-more l n w e

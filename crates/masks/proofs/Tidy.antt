@@ -18,7 +18,8 @@ use Rattle.words.proofs.Laws.{wordOf-ext, wordOf-bits, howMany-ext, ones-bits}
 use Rattle.lists.specs.All.{tab, allBelow}
 use Rattle.lists.proofs.Laws.{length-tab, getD-tab, all-at, all-make}
 use Rattle.masks.specs.Slots.{Masks}
-use Rattle.masks.specs.Slots.{lowOf, highOf, countOf, holds, ownerIn, ownersIn, owns, masksOf, apart, counted, tidyAt, tidy}
+use Rattle.masks.specs.Slots.{lowOf, highOf, countOf, holds, ownerIn, ownersIn, owns, masksOf, apart, countRight, wellFormedAt}
+use Rattle.masks.specs.Slots.{wellFormed}
 use Rattle.masks.proofs.Bits.{share-none, not-shared}
 use Rattle.masks.proofs.First.{first-test}
 use Rattle.masks.proofs.Owners.{Sized, holds-low, holds-high, by-word, holds-made, count-made, made-sized, owner-at}
@@ -38,12 +39,12 @@ ones-holds m z i l =
     (λ k g. sym (holds-high m i k)))
     ∙ sym (howMany-cat 64 16 (holds m i))
 
--- masks are tidy whose nodes hold no slot together and have the counts of their slots
+-- masks are well formed whose nodes hold no slot together and have the counts of their slots
 tidy-make : (m : Masks) → Sized m → ((i j k : ℕ) → i < 32 → j < i → k < 80 → (holds m j k && holds m i k) ≡ false)
-    → ((i : ℕ) → i < 32 → countOf m i ≡ howMany 80 (holds m i)) → tidy m ≡ true
-unfolding tidy
+    → ((i : ℕ) → i < 32 → countOf m i ≡ howMany 80 (holds m i)) → wellFormed m ≡ true
+unfolding wellFormed
 tidy-make m z f g =
-    all-make 32 (tidyAt m) (λ i l.
+    all-make 32 (wellFormedAt m) (λ i l.
     both
     (all-make i (λ j. apart m j i) (λ j h.
     let q : j < 32 = omega (arith, l, h) in
@@ -61,22 +62,22 @@ not-two x i j h =
     (λ e. ap (λ (t : Bool). t && eqb x (i + 1)) (ne-eqb x (j + 1) (λ f. omega (arith, e, f, h))))
     (λ e. ap (λ (t : Bool). eqb x (j + 1) && t) (ne-eqb x (i + 1) e) ∙ and-false (eqb x (j + 1)))
 
--- the masks of any list are tidy
-pub made-tidy : (owners : List ℕ) → tidy (masksOf owners) ≡ true
+-- the masks of any list are well formed
+pub made-tidy : (owners : List ℕ) → wellFormed (masksOf owners) ≡ true
 made-tidy owners =
     tidy-make (masksOf owners) (made-sized owners)
     (λ i j k l h b. both (holds-made owners j k (omega (arith, l, h)) b) (holds-made owners i k l b) ∙ not-two (getD owners k 0) i j h)
     (λ i l. count-made owners i l ∙ howMany-ext 80 (owns owners i) (holds (masksOf owners) i) (λ k b. sym (holds-made owners i k l b)))
 
-module _ (m : Masks) (t : tidy m ≡ true) where
-  at : (i : ℕ) → i < 32 → tidyAt m i ≡ true
-  unfolding tidy
-  at i l = all-at 32 (tidyAt m) t i l
+module _ (m : Masks) (t : wellFormed m ≡ true) where
+  at : (i : ℕ) → i < 32 → wellFormedAt m i ≡ true
+  unfolding wellFormed
+  at i l = all-at 32 (wellFormedAt m) t i l
 
   -- no slot is held by two nodes
   pub not-shared-by : (i j k : ℕ) → i < 32 → j < i → k < 80 → (holds m j k && holds m i k) ≡ false
   not-shared-by i j k l h =
-      let a : apart m j i ≡ true = all-at i (λ j. apart m j i) (and-left _ (counted m i) (at i l)) j h in
+      let a : apart m j i ≡ true = all-at i (λ j. apart m j i) (and-left _ (countRight m i) (at i l)) j h in
       by-word (λ k. (holds m j k && holds m i k) ≡ false)
       (λ k b. both (holds-low m j k b) (holds-low m i k b) ∙ not-shared (lowOf m j) (lowOf m i) k
       (eqb-true _ 0 (and-left _ (eqb (Bits.bitAnd (highOf m j) (highOf m i)) 0) a)))
@@ -103,7 +104,7 @@ module _ (m : Masks) (t : tidy m ≡ true) where
     -- the count of a node is how many of the owners are it
     pub count-owned : (i : ℕ) → i < 32 → countOf m i ≡ howMany 80 (owns (ownersIn m) i)
     count-owned i l =
-        eqb-true _ _ (and-right (allBelow i (λ j. apart m j i)) (counted m i) (at i l)) ∙ ones-holds m z i l
+        eqb-true _ _ (and-right (allBelow i (λ j. apart m j i)) (countRight m i) (at i l)) ∙ ones-holds m z i l
         ∙ howMany-ext 80 (holds m i) (owns (ownersIn m) i) (λ k b. holds-owns i k l b)
 
     -- the masks of their owners are the masks
@@ -130,6 +131,6 @@ module _ (m : Masks) (t : tidy m ≡ true) where
             (λ k b. sym (holds-owns i (64 + k) l (omega (arith, b))) ∙ holds-high m i k)
             ∙ wordOf-bits 16 (highOf m i) (z .high-fits i l)
 
--- tidy masks with the same owners are the same
-pub same-owners : (m n : Masks) → Sized m → Sized n → tidy m ≡ true → tidy n ≡ true → ownersIn m ≡ ownersIn n → m ≡ n
+-- well-formed masks with the same owners are the same
+pub same-owners : (m n : Masks) → Sized m → Sized n → wellFormed m ≡ true → wellFormed n ≡ true → ownersIn m ≡ ownersIn n → m ≡ n
 same-owners m n y z s t e = sym (made-again m s y) ∙ ap masksOf e ∙ made-again n t z

@@ -21,7 +21,7 @@ use Rattle.lists.specs.All.{tab, bounded}
 use Rattle.lists.proofs.Bounded.{bounded-over}
 use Rattle.lists.proofs.Laws.{length-tab, getD-tab, tab-ext}
 use Rattle.masks.specs.Slots.{hasSlot, first, owns}
-use Rattle.masks.specs.Inner.{givenAt, given, indexOf}
+use Rattle.masks.specs.Inner.{slotGivenAt, slotsGiven, indexOf}
 use Rattle.masks.proofs.Bits.{no-bits, zeros-below, lowest-bit}
 use Rattle.masks.proofs.First.{first-suc}
 
@@ -142,37 +142,37 @@ next-bit w d m rest q h k p =
 -- the owners where the word's bits below a place are given: a turn to the next bit, and the end
 module _ (owners : List ℕ) (from w j : ℕ) where
   unfoldable pub soFar : ℕ → ℕ → ℕ
-  soFar at k = cond (ltb k at) (givenAt owners from w j k) (getD owners k 0)
+  soFar at k = cond (ltb k at) (slotGivenAt owners from w j k) (getD owners k 0)
 
   -- a slot below or behind the place
-  pub far-below : (at k : ℕ) → k < at → soFar at k ≡ givenAt owners from w j k
+  pub far-below : (at k : ℕ) → k < at → soFar at k ≡ slotGivenAt owners from w j k
   unfolding soFar
-  far-below at k h = hit (ltb k at) (givenAt owners from w j k) (getD owners k 0) (lt-ltb k at h)
+  far-below at k h = hit (ltb k at) (slotGivenAt owners from w j k) (getD owners k 0) (lt-ltb k at h)
 
   pub far-behind : (at k : ℕ) → at ≤ k → soFar at k ≡ getD owners k 0
   unfolding soFar
-  far-behind at k h = skip (ltb k at) (givenAt owners from w j k) (getD owners k 0) (getD owners k 0) (le-ltb k at h) refl
+  far-behind at k h = skip (ltb k at) (slotGivenAt owners from w j k) (getD owners k 0) (getD owners k 0) (le-ltb k at h) refl
 
   -- a slot that the word does not have stays
-  pub not-given : (k : ℕ) → hasBit w (k - from) ≡ false → givenAt owners from w j k ≡ getD owners k 0
+  pub not-given : (k : ℕ) → hasBit w (k - from) ≡ false → slotGivenAt owners from w j k ≡ getD owners k 0
   not-given k e =
       skip (eqb (getD owners k 0) 0 && (leb from k && hasBit w (k - from))) j (getD owners k 0) (getD owners k 0)
       (ap (λ (t : Bool). eqb (getD owners k 0) 0 && (leb from k && t)) e
       ∙ ap (λ (t : Bool). eqb (getD owners k 0) 0 && t) (and-false (leb from k)) ∙ and-false (eqb (getD owners k 0) 0)) refl
 
-  not-laid : (k : ℕ) → k < from → givenAt owners from w j k ≡ getD owners k 0
+  not-laid : (k : ℕ) → k < from → slotGivenAt owners from w j k ≡ getD owners k 0
   not-laid k l =
       skip (eqb (getD owners k 0) 0 && (leb from k && hasBit w (k - from))) j (getD owners k 0) (getD owners k 0)
       (ap (λ (t : Bool). eqb (getD owners k 0) 0 && (t && hasBit w (k - from))) (lt-leb from k l)
       ∙ and-false (eqb (getD owners k 0) 0)) refl
 
-  is-given : (k : ℕ) → from ≤ k → hasBit w (k - from) ≡ true → givenAt owners from w j k
+  is-given : (k : ℕ) → from ≤ k → hasBit w (k - from) ≡ true → slotGivenAt owners from w j k
       ≡ cond (eqb (getD owners k 0) 0) j (getD owners k 0)
   is-given k l e =
       ap (λ (t : Bool). cond t j (getD owners k 0))
       (ap₂ (λ (s t : Bool). eqb (getD owners k 0) 0 && (s && t)) (le-leb from k l) e ∙ and-true (eqb (getD owners k 0) 0))
 
-  pub laid : (k : ℕ) → from ≤ k → givenAt owners from w j k ≡ cond (eqb (getD owners k 0) 0 && hasBit w (k - from)) j (getD owners k 0)
+  pub laid : (k : ℕ) → from ≤ k → slotGivenAt owners from w j k ≡ cond (eqb (getD owners k 0) 0 && hasBit w (k - from)) j (getD owners k 0)
   laid k l = ap (λ (t : Bool). cond (eqb (getD owners k 0) 0 && (t && hasBit w (k - from))) j (getD owners k 0)) (le-leb from k l)
 
   module _ (at t m rest : ℕ) (l : List ℕ) (h : (k : ℕ) → getD l k 0 ≡ soFar at k) (b : from ≤ at) (n : Next w (at - from) m rest t) where
@@ -208,11 +208,11 @@ module _ (owners : List ℕ) (from w j : ℕ) where
       (λ t. sym (far-below from k (ltb-true k from t) ∙ not-laid k (ltb-true k from t))) (λ t. sym (far-behind from k (ltb-false k from t)))
 
   pub give-end : (at : ℕ) (l : List ℕ) → from ≤ at → length l ≡ length owners → ((k : ℕ) → getD l k 0 ≡ soFar at k)
-      → w / 2 ^ (at - from) ≡ 0 → l ≡ given owners from w j
-  unfolding given
+      → w / 2 ^ (at - from) ≡ 0 → l ≡ slotsGiven owners from w j
+  unfolding slotsGiven
   give-end at l b e h z =
-      ext-getD 0 l (given owners from w j) (e ∙ sym (length-tab (length owners) (givenAt owners from w j)))
-      (λ k g. h k ∙ all k ∙ sym (getD-tab 0 (length owners) (givenAt owners from w j) k (omega (arith, g, e))))
+      ext-getD 0 l (slotsGiven owners from w j) (e ∙ sym (length-tab (length owners) (slotGivenAt owners from w j)))
+      (λ k g. h k ∙ all k ∙ sym (getD-tab 0 (length owners) (slotGivenAt owners from w j) k (omega (arith, g, e))))
     where
       out : (k : ℕ) → at ≤ k → hasBit w (k - from) ≡ false
       out k u =
@@ -220,9 +220,9 @@ module _ (owners : List ℕ) (from w j : ℕ) where
           ap (hasBit w) (sym f) ∙ ap (λ (x : ℕ). eqb (x % 2) 1) (sym (shr-shr w (at - from) (k - at)))
           ∙ ap (λ (x : ℕ). hasBit x (k - at)) z ∙ no-bits (k - at)
 
-      all : (k : ℕ) → soFar at k ≡ givenAt owners from w j k
+      all : (k : ℕ) → soFar at k ≡ slotGivenAt owners from w j k
       all k =
-          by-test (λ (_ : ℕ). soFar at k ≡ givenAt owners from w j k) (ltb k at) 0 0 (λ t. far-below at k (ltb-true k at t))
+          by-test (λ (_ : ℕ). soFar at k ≡ slotGivenAt owners from w j k) (ltb k at) 0 0 (λ t. far-below at k (ltb-true k at t))
           (λ t. let u = ltb-false k at t in far-behind at k u ∙ sym (not-given k (out k u)))
 
 -- a node more: its two words are laid over the owners so far
@@ -231,21 +231,21 @@ module _ (low high : List ℕ) where
   slotIn k i = hasSlot (getD low i 0) (getD high i 0) k
 
   pub owners-turn : (i : ℕ) (l m n : List ℕ) → getD low i 0 < 2 ^ 64 → l ≡ tab 80 (λ k. first i (slotIn k))
-      → m ≡ given l 0 (getD low i 0) (i + 1) → n ≡ given m 64 (getD high i 0) (i + 1)
+      → m ≡ slotsGiven l 0 (getD low i 0) (i + 1) → n ≡ slotsGiven m 64 (getD high i 0) (i + 1)
       → n ≡ tab 80 (λ k. first (i + 1) (slotIn k))
-  unfolding given
+  unfolding slotsGiven
   owners-turn i l m n b e f g =
       let j = i + 1 in
       let el : length l ≡ 80 = ap length e ∙ length-tab 80 (λ k. first i (slotIn k)) in
-      let em : length m ≡ 80 = ap length f ∙ length-tab (length l) (givenAt l 0 (getD low i 0) j) ∙ el in
-      let en : length n ≡ 80 = ap length g ∙ length-tab (length m) (givenAt m 64 (getD high i 0) j) ∙ em in
+      let em : length m ≡ 80 = ap length f ∙ length-tab (length l) (slotGivenAt l 0 (getD low i 0) j) ∙ el in
+      let en : length n ≡ 80 = ap length g ∙ length-tab (length m) (slotGivenAt m 64 (getD high i 0) j) ∙ em in
       ext-getD 0 n (tab 80 (λ k. first (i + 1) (slotIn k))) (en ∙ sym (length-tab 80 (λ k. first (i + 1) (slotIn k))))
       (λ k u.
       let v : k < 80 = omega (arith, u, en) in
-      let xn : getD n k 0 ≡ givenAt m 64 (getD high i 0) j k = ap (λ (y : List ℕ). getD y k 0) g
-      ∙ getD-tab 0 (length m) (givenAt m 64 (getD high i 0) j) k (omega (arith, v, em)) in
-      let xm : getD m k 0 ≡ givenAt l 0 (getD low i 0) j k = ap (λ (y : List ℕ). getD y k 0) f
-      ∙ getD-tab 0 (length l) (givenAt l 0 (getD low i 0) j) k (omega (arith, v, el)) in
+      let xn : getD n k 0 ≡ slotGivenAt m 64 (getD high i 0) j k = ap (λ (y : List ℕ). getD y k 0) g
+      ∙ getD-tab 0 (length m) (slotGivenAt m 64 (getD high i 0) j) k (omega (arith, v, em)) in
+      let xm : getD m k 0 ≡ slotGivenAt l 0 (getD low i 0) j k = ap (λ (y : List ℕ). getD y k 0) f
+      ∙ getD-tab 0 (length l) (slotGivenAt l 0 (getD low i 0) j) k (omega (arith, v, el)) in
       let xl : getD l k 0 ≡ first i (slotIn k) = ap (λ (y : List ℕ). getD y k 0) e ∙ getD-tab 0 80 (λ k. first i (slotIn k)) k v in
       xn ∙ step k xl xm ∙ sym (getD-tab 0 80 (λ k. first (i + 1) (slotIn k)) k v))
     where
@@ -253,10 +253,10 @@ module _ (low high : List ℕ) where
       more k = sym (ap (λ (x : ℕ). first x (slotIn k)) (add-one i) ∙ first-suc i (slotIn k))
 
       -- the slot at index k
-      step : (k : ℕ) → getD l k 0 ≡ first i (slotIn k) → getD m k 0 ≡ givenAt l 0 (getD low i 0) (i + 1) k
-          → givenAt m 64 (getD high i 0) (i + 1) k ≡ first (i + 1) (slotIn k)
+      step : (k : ℕ) → getD l k 0 ≡ first i (slotIn k) → getD m k 0 ≡ slotGivenAt l 0 (getD low i 0) (i + 1) k
+          → slotGivenAt m 64 (getD high i 0) (i + 1) k ≡ first (i + 1) (slotIn k)
       step k xl xm =
-          by-test (λ (_ : ℕ). givenAt m 64 (getD high i 0) (i + 1) k ≡ first (i + 1) (slotIn k)) (ltb k 64) 0 0
+          by-test (λ (_ : ℕ). slotGivenAt m 64 (getD high i 0) (i + 1) k ≡ first (i + 1) (slotIn k)) (ltb k 64) 0 0
           (λ t.
           let z : k - 0 ≡ k = omega arith in
           not-laid m 64 (getD high i 0) (i + 1) k (ltb-true k 64 t) ∙ xm ∙ laid l 0 (getD low i 0) (i + 1) k (omega arith)

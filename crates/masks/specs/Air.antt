@@ -20,5 +20,5 @@ abbrev pub told : List ℕ → ℕ → ℕ → List ℕ → ℕ → List ℕ
 told l at n out to = cond (hasRoom l at && leb (to + 80) (length out)) (written out to (ownersTo (masksIn l at) n)) out
 
 -- the masks of owners at a place; without room nothing changes
-abbrev pub holding : List ℕ → ℕ → List ℕ → List ℕ
-holding l at owners = cond (hasRoom l at) (written l at (masksBytes (masksOf owners))) l
+abbrev pub withOwners : List ℕ → ℕ → List ℕ → List ℕ
+withOwners l at owners = cond (hasRoom l at) (written l at (masksBytes (masksOf owners))) l

@@ -8,7 +8,7 @@ use lib.Dec.{eqb, ltb, leb}
 use lib.ListN.{length, getD, replicate}
 use Rattle.lists.specs.All.{allBelow, tab, bounded}
 use Rattle.lists.specs.Bytes.{word32, bytes32, window, span, written}
-use Rattle.masks.specs.Slots.{fromWords, lowOf, highOf, countOf, ownersIn, tidy}
+use Rattle.masks.specs.Slots.{fromWords, lowOf, highOf, countOf, ownersIn, wellFormed}
 use Rattle.masks.specs.Slots.{Masks}
 use Rattle.masks.specs.declared.NodeSlots.{NodeSlots}
 
@@ -51,9 +51,9 @@ masksIn l at = fromWords (tab 32 (λ i. word64 l (at + 8 * i))) (tab 32 (λ i. w
 abbrev pub hasRoom : List ℕ → ℕ → Bool
 hasRoom l at = leb (at + masksSize) (length l)
 
--- masks that are tidy, with slots among the first k alone, and of the first n nodes alone
+-- masks that are well formed, with slots among the first k alone, and of the first n nodes alone
 unfoldable pub fitting : Masks → ℕ → ℕ → Bool
-fitting m k n = tidy m && bounded (ownersIn m) k n
+fitting m k n = wellFormed m && bounded (ownersIn m) k n
 
 -- whether such masks stand at a place; without room for them none do
 unfoldable pub fitRead : List ℕ → ℕ → ℕ → ℕ → Bool
@@ -72,8 +72,8 @@ unfoldable pub rowsUsed : List ℕ → ℕ → ℕ → ℕ
 rowsUsed l at n = cond (ltb n 32 && (hasRoom l at && restBlank (masksIn l at) n)) n 32
 
 -- the first n of 32 words, and 0 for the others
-unfoldable pub firstOf : ℕ → List ℕ → List ℕ
-firstOf n l = tab 32 (λ i. cond (ltb i n) (getD l i 0) 0)
+unfoldable pub firstWords : ℕ → List ℕ → List ℕ
+firstWords n l = tab 32 (λ i. cond (ltb i n) (getD l i 0) 0)
 
 -- all slots free at a place; without room nothing changes
 abbrev pub noSlots : List ℕ
@@ -94,11 +94,11 @@ copied l from to = cond (canCopy l from to) (written l to (span l from masksSize
 abbrev pub noOwn : NodeSlots
 noOwn = record { low = 0; high = 0; count = 0 }
 
-abbrev pub ownOf : Masks → ℕ → NodeSlots
-ownOf m i = record { low = lowOf m i; high = highOf m i; count = countOf m i }
+abbrev pub nodeSlotsOf : Masks → ℕ → NodeSlots
+nodeSlotsOf m i = record { low = lowOf m i; high = highOf m i; count = countOf m i }
 
 unfoldable pub ownRead : List ℕ → ℕ → ℕ → NodeSlots
-ownRead l at j = cond (hasRoom l at && (leb 1 j && leb j 32)) (ownOf (masksIn l at) (j - 1)) noOwn
+ownRead l at j = cond (hasRoom l at && (leb 1 j && leb j 32)) (nodeSlotsOf (masksIn l at) (j - 1)) noOwn
 
 -- the words of the node at index i in the masks at a place; 0 behind the last node, and without room for masks
 abbrev pub lowAt : List ℕ → ℕ → ℕ → ℕ

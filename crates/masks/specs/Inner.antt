@@ -9,18 +9,18 @@ use lib.ListN.{length, getD, set}
 use Rattle.words.specs.Bits.{hasBit}
 use Rattle.lists.specs.All.{iter, allBelow, tab}
 use Rattle.lists.specs.Bytes.{written}
-use Rattle.masks.specs.Slots.{tidyAt}
+use Rattle.masks.specs.Slots.{wellFormedAt}
 use Rattle.masks.specs.Slots.{Masks}
 use Rattle.masks.specs.Bytes.{word64, bytes64, word16, bytes16, atHigh, atHeld}
 
 -- a word laid over owners from a place on gives the number j to each slot where it has a bit and there was no owner: the slot at index k
 -- then
-abbrev pub givenAt : List ℕ → ℕ → ℕ → ℕ → ℕ → ℕ
-givenAt owners from w j k = cond (eqb (getD owners k 0) 0 && (leb from k && hasBit w (k - from))) j (getD owners k 0)
+abbrev pub slotGivenAt : List ℕ → ℕ → ℕ → ℕ → ℕ → ℕ
+slotGivenAt owners from w j k = cond (eqb (getD owners k 0) 0 && (leb from k && hasBit w (k - from))) j (getD owners k 0)
 
 -- and all of them
-unfoldable pub given : List ℕ → ℕ → ℕ → ℕ → List ℕ
-given owners from w j = tab (length owners) (givenAt owners from w j)
+unfoldable pub slotsGiven : List ℕ → ℕ → ℕ → ℕ → List ℕ
+slotsGiven owners from w j = tab (length owners) (slotGivenAt owners from w j)
 
 -- where the node of number j stands; 32 and more for a number that no node has
 abbrev pub indexOf : ℕ → ℕ
@@ -36,7 +36,7 @@ endsBy low high k = cond (ltb k 64) (eqb (low / 2 ^ k) 0 && eqb high 0) (cond (l
 
 -- whether the first nodes share no slot and have their counts, and have no slot from k up
 abbrev pub rowsFit : Masks → ℕ → ℕ → Bool
-rowsFit m top k = allBelow top (tidyAt m) && endsBy (taken (m .low) top) (taken (m .high) top) k
+rowsFit m top k = allBelow top (wellFormedAt m) && endsBy (taken (m .low) top) (taken (m .high) top) k
 
 -- the bit of the slot at index k in the words of the node at index i of the masks at a place
 abbrev pub marked : List ℕ → ℕ → ℕ → ℕ → List ℕ

@@ -74,12 +74,12 @@ abbrev pub apart : Masks → ℕ → ℕ → Bool
 apart m i j = eqb (Bits.bitAnd (lowOf m i) (lowOf m j)) 0 && eqb (Bits.bitAnd (highOf m i) (highOf m j)) 0
 
 -- whether the count of the node at index i is that of its ones
-abbrev pub counted : Masks → ℕ → Bool
-counted m i = eqb (countOf m i) (Count.ones (lowOf m i) + Count.ones (highOf m i))
+abbrev pub countRight : Masks → ℕ → Bool
+countRight m i = eqb (countOf m i) (Count.ones (lowOf m i) + Count.ones (highOf m i))
 
 -- whether the node at index i shares no slot with a lower one, and has its count
-abbrev pub tidyAt : Masks → ℕ → Bool
-tidyAt m i = allBelow i (λ j. apart m j i) && counted m i
+abbrev pub wellFormedAt : Masks → ℕ → Bool
+wellFormedAt m i = allBelow i (λ j. apart m j i) && countRight m i
 
-unfoldable pub tidy : Masks → Bool
-tidy m = allBelow 32 (tidyAt m)
+unfoldable pub wellFormed : Masks → Bool
+wellFormed m = allBelow 32 (wellFormedAt m)

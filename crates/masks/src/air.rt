@@ -2,7 +2,7 @@
 ghost use mathlib.Core.Path.{_≡_};
 ghost use Prim.Native.Nat.{min, _+_, _≤_, _<_};
 ghost use lib.ListN.{length, getD, replicate};
-ghost use Rattle.masks.specs.Air.{ownersTo, told, holding};
+ghost use Rattle.masks.specs.Air.{ownersTo, told, withOwners};
 ghost use Rattle.masks.specs.Bytes.{masksSize, masksIn, atHeld};
 ghost use Rattle.masks.specs.Inner.{indexOf, marked, granted};
 use crate::bytes::has_room;
@@ -99,7 +99,7 @@ fn slots_to(n: usize) -> usize
 
 // The masks of owners at a place, if there is room for them there: the owners' slots one by one, over masks that are all free.
 pub fn hold(out: &mut [u8], at: usize, owners: &[u8])
-    ensures { λ _. ⌜ now (out .exit) ≡ holding (now (out .entry)) at (now (owners .entry)) ⌝ }
+    ensures { λ _. ⌜ now (out .exit) ≡ withOwners (now (out .entry)) at (now (owners .entry)) ⌝ }
 {
     if !has_room(out, at) {
         return;

@@ -7,7 +7,7 @@ ghost use Rattle.lists.specs.All.{bounded};
 ghost use Rattle.lists.specs.Bytes.{span, written, Tried};
 ghost use Rattle.masks.specs.Slots.{fromWords};
 ghost use Rattle.masks.specs.Bytes.{word64, bytes64, word16, bytes16, rows, masksBytes, hasRoom, noOwn, ownRead};
-ghost use Rattle.masks.specs.Bytes.{lowAt, highAt, firstOf};
+ghost use Rattle.masks.specs.Bytes.{lowAt, highAt, firstWords};
 use crate::NodeSlots;
 
 // The bytes of masks.
@@ -172,7 +172,8 @@ pub(crate) fn zeros(s: &mut [u8], from: usize, n: usize)
 // The first words of the first n nodes at a place, and 0 for the others.
 fn put_first(out: &mut [u8], at: usize, n: usize, low: &[u64; 32])
     requires { ⌜ (n ≤ 32) × (at + 256 ≤ length (now out)) ⌝ }
-    ensures { λ _. ⌜ now (out .exit) ≡ written (now (out .entry)) at (rows 32 (λ i. bytes64 (getD (firstOf n (now (low .entry))) i 0))) ⌝ }
+    ensures { λ _. ⌜ now (out .exit)
+        ≡ written (now (out .entry)) at (rows 32 (λ i. bytes64 (getD (firstWords n (now (low .entry))) i 0))) ⌝ }
 {
     zeros(out, at, 256);
     for i in 0..n {
@@ -184,7 +185,8 @@ fn put_first(out: &mut [u8], at: usize, n: usize, low: &[u64; 32])
 // Their second words.
 fn put_second(out: &mut [u8], at: usize, n: usize, high: &[u16; 32])
     requires { ⌜ (n ≤ 32) × (at + 64 ≤ length (now out)) ⌝ }
-    ensures { λ _. ⌜ now (out .exit) ≡ written (now (out .entry)) at (rows 32 (λ i. bytes16 (getD (firstOf n (now (high .entry))) i 0))) ⌝ }
+    ensures { λ _. ⌜ now (out .exit)
+        ≡ written (now (out .entry)) at (rows 32 (λ i. bytes16 (getD (firstWords n (now (high .entry))) i 0))) ⌝ }
 {
     zeros(out, at, 64);
     for i in 0..n {
@@ -204,7 +206,7 @@ pub fn put_words(
     counts: [u8; 32],
 ) -> usize
     ensures { λ r. ⌜ Tried (now (out .entry)) at
-        (masksBytes (fromWords (firstOf n (now (low .entry))) (firstOf n (now (high .entry))) counts)) r (now (out .exit)) ⌝ }
+        (masksBytes (fromWords (firstWords n (now (low .entry))) (firstWords n (now (high .entry))) counts)) r (now (out .exit)) ⌝ }
 {
     if !has_room(out, at) {
         return at;

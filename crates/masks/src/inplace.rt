@@ -97,7 +97,7 @@ fn is_unused(s: &[u8], from: usize, k: u32) -> bool
     false
 }
 
-// Whether the masks in the bytes at a place are tidy, with slots among the first k alone, and of the first n nodes alone.
+// Whether the masks in the bytes at a place are well formed, with slots among the first k alone, and of the first n nodes alone.
 pub fn fit(s: &[u8], at: u32, k: u32, n: u32) -> bool
     ensures { λ r. ⌜ r ≡ fitRead (now (s .entry)) at k n ⌝ }
 {

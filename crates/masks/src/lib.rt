@@ -3,7 +3,7 @@ ghost use mathlib.Core.Path.{_≡_};
 ghost use mathlib.Core.Bool.{cond};
 ghost use Prim.Native.Nat.{_+_, _-_, _^_, _≤_, _<_};
 ghost use lib.ListN.{length};
-ghost use Rattle.masks.specs.Inner.{given, indexOf};
+ghost use Rattle.masks.specs.Inner.{slotsGiven, indexOf};
 
 mod air;
 mod bytes;
@@ -39,7 +39,7 @@ fn pick(t: bool, a: u8, b: u8) -> u8
 // Goes from one bit that is set to the next.
 fn give(owners: &mut [u8], from: usize, w: u64, j: u8)
     requires { ⌜ (from ≤ length (now owners)) × (w < 2 ^ (length (now owners) - from)) ⌝ }
-    ensures { λ _. ⌜ now (owners .exit) ≡ given (now (owners .entry)) from w j ⌝ }
+    ensures { λ _. ⌜ now (owners .exit) ≡ slotsGiven (now (owners .entry)) from w j ⌝ }
 {
     let mut rest = w;
     let mut at = from;

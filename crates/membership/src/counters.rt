@@ -16,16 +16,16 @@ fn plus(x: u8, heard: bool) -> u8
 }
 
 // C_e grows by C_r: line 31.
-pub fn count_heard(counts: [u8; 32], heard: u32) -> [u8; 32]
-    ensures { λ r. ⌜ r ≡ counted counts heard ⌝ }
+pub fn count_heard(counters: [u8; 32], heard: u32) -> [u8; 32]
+    ensures { λ r. ⌜ r ≡ counted counters heard ⌝ }
 {
     if heard == 0 {
-        return counts;
+        return counters;
     }
-    let mut l = counts;
+    let mut l = counters;
     for i in 0..32usize {
         let one = words::contains(heard, i as u32);
-        l[i] = plus(counts[i], one);
+        l[i] = plus(counters[i], one);
     }
     l
 }
@@ -41,12 +41,12 @@ pub fn with_self(w: u32, j: u32) -> u32
 }
 
 // The nodes with C_e of at least `heard`, and the node itself: lines 51 to 54.
-pub fn members_of(counts: [u8; 32], node: u32, heard: u32) -> u32
-    ensures { λ r. ⌜ r ≡ membersOf counts node heard ⌝ }
+pub fn members_of(counters: [u8; 32], node: u32, heard: u32) -> u32
+    ensures { λ r. ⌜ r ≡ membersOf counters node heard ⌝ }
 {
     let mut w: u32 = 0;
     for i in 0..32usize {
-        let often = heard <= counts[i] as u32;
+        let often = heard <= counters[i] as u32;
         let own = (i + 1) as u32 == node;
         if often | own {
             w = words::with(w, i as u32);
@@ -73,12 +73,12 @@ fn left(x: u8, none: bool) -> u8
 }
 
 // The counters as the next round begins: none is left where the epoch ends.
-pub fn kept(counts: [u8; 32], none: bool) -> [u8; 32]
-    ensures { λ r. ⌜ r ≡ cond none (replicate 32 0) counts ⌝ }
+pub fn kept(counters: [u8; 32], none: bool) -> [u8; 32]
+    ensures { λ r. ⌜ r ≡ cond none (replicate 32 0) counters ⌝ }
 {
-    let mut l = counts;
+    let mut l = counters;
     for i in 0..32usize {
-        l[i] = left(counts[i], none);
+        l[i] = left(counters[i], none);
     }
     l
 }

@@ -20,7 +20,8 @@ use Rattle.node.specs.Close.{stayed, closedNode}
 use Rattle.node.specs.Distribution.{takenEpoch, takenNode}
 use Rattle.node.specs.End.{nextRound, waitsOn, nextEpoch, rejoined, expires, endedNode}
 use Rattle.node.specs.Grounds.{firstRule, ruleOf}
-use Rattle.node.specs.Core.{coreOf, nodeOf, bare, pair, dealt, movedBy, closeMoveBy, coreClosed, endMoveBy, coreTurned, coreWaited}
+use Rattle.node.specs.Core.{coreOf, nodeOf, bare, pair, dealtSchedule, movedBy, closeMoveBy, coreClosed, endMoveBy, coreTurned}
+use Rattle.node.specs.Core.{coreWaited}
 use Rattle.node.specs.Core.{coreEnded, takeMoveBy, coreTaken}
 use Rattle.node.specs.Inner.{coreRequest, flagsAfter, verdictOf, countedRule}
 use Rattle.node.specs.Model.{Node}
@@ -81,7 +82,7 @@ rule-first n d u = skip (due n) NewSent _ _ d (skip (n .epoch .updated) NotDue (
 
 -- a close by whether it is due
 abbrev pub closedBy : Core → List ℕ → Bool → Bool → Bool → ℕ → Core
-closedBy c counts due updated repeats version =
+closedBy c counters due updated repeats version =
     record {
       setup = c .setup;
       version = version;
@@ -89,8 +90,8 @@ closedBy c counts due updated repeats version =
       request = coreRequest c version;
       flags = c .flags;
       round = lapsed;
-      counts = counts;
-      met = c .met;
+      counters = counters;
+      interactions = c .interactions;
       place = c .place;
       updated = updated && not due;
       phase = Distribution (due || repeats);
@@ -123,9 +124,9 @@ closed-as c = go (due (bare c))
       request = coreRequest c (successor (c .version));
       flags = c .flags;
       round = lapsed;
-      counts = countsBy (bare c);
-      met =
-          c .met;
+      counters = countsBy (bare c);
+      interactions =
+          c .interactions;
       place = c .place;
       updated = and-false (updatedBy (bare c)) i;
       phase = Distribution true;
@@ -138,8 +139,8 @@ closed-as c = go (due (bare c))
       flags =
           c .flags;
       round = lapsed;
-      counts = countsBy (bare c);
-      met = c .met;
+      counters = countsBy (bare c);
+      interactions = c .interactions;
       place = c .place;
       updated =
           and-true (updatedBy (bare c)) i;
@@ -154,8 +155,8 @@ close-moved n = go (due n) (determines n)
     go : (t d : Bool) → movedBy n (coreOf
         (cond t (raised (bare (coreOf n)) (countsBy n) (determinedBy (bare (coreOf n))))
         (stayed (bare (coreOf n)) (countsBy n) (updatedBy n) (determinedBy (bare (coreOf n))) (repeats n)))) (closeMoveBy t d)
-        ≡ cond t (raised n (countsBy n) (cond d (dealt (coreOf n) (n .schedule)) (n .epoch .determined)))
-        (stayed n (countsBy n) (updatedBy n) (cond d (dealt (coreOf n) (n .schedule)) (n .epoch .determined)) (repeats n))
+        ≡ cond t (raised n (countsBy n) (cond d (dealtSchedule (coreOf n) (n .schedule)) (n .epoch .determined)))
+        (stayed n (countsBy n) (updatedBy n) (cond d (dealtSchedule (coreOf n) (n .schedule)) (n .epoch .determined)) (repeats n))
     go true true = refl
     go true false = refl
     go false true = refl
@@ -171,8 +172,8 @@ turnedBy c last expired =
       request = coreRequest c (cond expired 0 (c .version));
       flags = flagsAfter c last;
       round = opened (c .setup .node) (cond expired 0 (c .version)) (flagsAfter c last) (coreRequest c (cond expired 0 (c .version)));
-      counts = cond last (replicate 32 0) (c .counts);
-      met = cond last 0 (c .met);
+      counters = cond last (replicate 32 0) (c .counters);
+      interactions = cond last 0 (c .interactions);
       place = cond last 0 (c .place + 1);
       updated = c .updated && not last;
       phase = Negotiation;
@@ -189,8 +190,8 @@ turned-as c true = λ i. record {
   round =
       opened (c .setup .node) (cond (expires (bare c)) 0 (c .version)) (flagsAfter c true)
       (coreRequest c (cond (expires (bare c)) 0 (c .version)));
-  counts = replicate 32 0;
-  met = 0;
+  counters = replicate 32 0;
+  interactions = 0;
   place = 0;
   updated =
       and-false (c .updated) i;
@@ -205,8 +206,8 @@ turned-as c false =
       request = e i;
       flags = c .flags;
       round = opened (c .setup .node) (c .version) (c .flags) (e i);
-      counts = c .counts;
-      met = c .met;
+      counters = c .counters;
+      interactions = c .interactions;
       place = c .place + 1;
       updated =
           and-true (c .updated) i;
@@ -220,9 +221,9 @@ turn-move false e = refl
 -- the node after an end
 epoch-moved : (n : Node) (e : Bool)
     → movedBy n (coreOf (begun (n .setup) (cond e 0 (n .version)) (cond e free free) (n .demand) (requestAt n (cond e 0 (n .version)))
-    (membersOf (n .epoch .counts) (n .setup .node) (n .setup .config .«min_heard»)))) (endMoveBy true e)
+    (membersOf (n .epoch .counters) (n .setup .node) (n .setup .config .«min_heard»)))) (endMoveBy true e)
     ≡ begun (n .setup) (cond e 0 (n .version)) (cond e free (n .schedule)) (n .demand) (requestAt n (cond e 0 (n .version)))
-    (membersOf (n .epoch .counts) (n .setup .node) (n .setup .config .«min_heard»))
+    (membersOf (n .epoch .counters) (n .setup .node) (n .setup .config .«min_heard»))
 unfolding begun
 epoch-moved n true = refl
 epoch-moved n false = refl
@@ -275,8 +276,8 @@ take-moved n q = go (eqb (n .version) (q .version))
           round = n .round;
           epoch =
               record {
-                counts = n .epoch .counts;
-                met = takenEpoch n (q .version) .met;
+                counters = n .epoch .counters;
+                interactions = takenEpoch n (q .version) .interactions;
                 place = n .epoch .place;
                 updated = n .epoch .updated
                     && eqb (n .version) (q .version);

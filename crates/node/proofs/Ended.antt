@@ -64,6 +64,6 @@ module _ (n : Node) where
       end-keeps e = (next-version ∙ skip (expires n) _ _ _ e refl, next-schedule ∙ skip (expires n) _ _ _ e refl)
 
       -- its flags are those whom it heard often enough
-      pub end-flags : endedNode n .flags ≡ membersOf (n .epoch .counts) (n .setup .node) (n .setup .config .«min_heard»)
+      pub end-flags : endedNode n .flags ≡ membersOf (n .epoch .counters) (n .setup .node) (n .setup .config .«min_heard»)
       unfolding nextEpoch begun
       end-flags = ap (λ (m : Node). m .flags) (end-next-epoch n w l)

@@ -14,7 +14,7 @@ use Rattle.allotment.specs.Allotment.{free}
 use Rattle.allotment.specs.InPlace.{heldBytes, heldIn}
 use Rattle.allotment.specs.Model.{Schedule}
 use Rattle.allotment.proofs.Held.{length-held, free-bytes}
-use Rattle.node.specs.Core.{pair, dealt, schedulesBy, takeMoveBy}
+use Rattle.node.specs.Core.{pair, dealtSchedule, schedulesBy, takeMoveBy}
 use Rattle.node.specs.InPlace.{bothSize, behind, movedThere, movedIn}
 use Rattle.node.specs.declared.Core.{Core}
 use Rattle.node.specs.Model.{Schedules}
@@ -92,14 +92,14 @@ module _ (p : List ℕ) (s d : Schedule) (at : ℕ) (e : length p ≡ at) where
   there : (m : Move) (c : Core) → heldIn laid at ≡ s → movedThere m c laid at ≡ p ++ bothBytes (schedulesBy m c s d)
   there Keep c h = refl
   there Determine c h =
-      ap (λ (u : Schedule). written laid (behind at) (heldBytes (dealt c u))) h
-      ∙ second-over p (heldBytes s) (heldBytes d) at e x y (heldBytes (dealt c s)) (length-held (dealt c s))
+      ap (λ (u : Schedule). written laid (behind at) (heldBytes (dealtSchedule c u))) h
+      ∙ second-over p (heldBytes s) (heldBytes d) at e x y (heldBytes (dealtSchedule c s)) (length-held (dealtSchedule c s))
   there Raise c h =
       ap (λ (b : List ℕ). written (written laid at b) (behind at) noSlots) (second-read p (heldBytes s) (heldBytes d) at e x y)
       ∙ cleared-behind p (heldBytes s) (heldBytes d) at e x y (heldBytes d) y
   there DetermineAndRaise c h =
-      ap (λ (u : Schedule). written (written laid at (heldBytes (dealt c u))) (behind at) noSlots) h
-      ∙ cleared-behind p (heldBytes s) (heldBytes d) at e x y (heldBytes (dealt c s)) (length-held (dealt c s))
+      ap (λ (u : Schedule). written (written laid at (heldBytes (dealtSchedule c u))) (behind at) noSlots) h
+      ∙ cleared-behind p (heldBytes s) (heldBytes d) at e x y (heldBytes (dealtSchedule c s)) (length-held (dealtSchedule c s))
   there Drop c h = dropped
   there Free c h = freed p (heldBytes s) (heldBytes d) at e x y
 

@@ -44,12 +44,13 @@ pub record Heard (n : Node) (q : Packet) (m : Node) : Type 0 where
   pub request : m .request ≡ n .request
   pub flags : m .flags ≡ n .flags
   pub phase : m .phase ≡ n .phase
-  pub counts : m .epoch .counts ≡ n .epoch .counts
+  pub counters : m .epoch .counters ≡ n .epoch .counters
   pub place : m .epoch .place ≡ n .epoch .place
   pub updated : m .epoch .updated ≡ n .epoch .updated
   pub determined : m .epoch .determined ≡ n .epoch .determined
   pub heard : m .round .heard ≡ Bits.bitOr (n .round .heard) (requesters (q .requests))
-  pub met : m .epoch .met ≡ cond (merges n q) (Bits.bitOr (n .epoch .met) (requesters (q .requests))) (n .epoch .met)
+  pub interactions : m .epoch .interactions ≡ cond (merges n q) (Bits.bitOr (n .epoch .interactions) (requesters (q .requests)))
+      (n .epoch .interactions)
   pub merged : m .round .merged ≡ cond (merges n q) (Bits.bitOr (n .round .merged) (q .flags)) (n .round .merged)
   pub known : m .round .known ≡ cond (merges n q) (union (n .round .known) (q .requests)) (n .round .known)
   pub lowest : m .round .lowest ≡ cond (merges n q) (min (n .round .lowest) (q .lowest)) (n .round .lowest)
@@ -66,12 +67,12 @@ hears n q =
       request = same (λ m. m .request) refl refl;
       flags = same (λ m. m .flags) refl refl;
       phase = same (λ m. m .phase) refl refl;
-      counts = same (λ m. m .epoch .counts) refl refl;
+      counters = same (λ m. m .epoch .counters) refl refl;
       place = same (λ m. m .epoch .place) refl refl;
       updated = same (λ m. m .epoch .updated) refl refl;
       determined = same (λ m. m .epoch .determined) refl refl;
       heard = read-same (λ m. m .round .heard) (merges n q) a b _ refl refl;
-      met = read-choice (λ m. m .epoch .met) (merges n q) a b;
+      interactions = read-choice (λ m. m .epoch .interactions) (merges n q) a b;
       merged = read-choice (λ m. m .round .merged) (merges n q) a b;
       known = read-choice (λ m. m .round .known) (merges n q) a b;
       lowest = read-choice (λ m. m .round .lowest) (merges n q) a b;
@@ -95,8 +96,8 @@ pub record Closed (n m : Node) : Type 0 where
   pub demand : m .demand ≡ n .demand
   pub flags : m .flags ≡ n .flags
   pub round : m .round ≡ lapsed
-  pub counts : m .epoch .counts ≡ countsBy n
-  pub met : m .epoch .met ≡ n .epoch .met
+  pub counters : m .epoch .counters ≡ countsBy n
+  pub interactions : m .epoch .interactions ≡ n .epoch .interactions
   pub place : m .epoch .place ≡ n .epoch .place
   pub phase : m .phase ≡ Distribution (due n || repeats n)
   pub version : m .version ≡ cond (due n) (successor (n .version)) (n .version)
@@ -113,8 +114,8 @@ closes-so n =
       demand = read-same (λ m. m .demand) (due n) a b _ refl refl;
       flags = read-same (λ m. m .flags) (due n) a b _ refl refl;
       round = read-same (λ m. m .round) (due n) a b _ refl refl;
-      counts = read-same (λ m. m .epoch .counts) (due n) a b _ refl refl;
-      met = read-same (λ m. m .epoch .met) (due n) a b _ refl refl;
+      counters = read-same (λ m. m .epoch .counters) (due n) a b _ refl refl;
+      interactions = read-same (λ m. m .epoch .interactions) (due n) a b _ refl refl;
       place = read-same (λ m. m .epoch .place) (due n) a b _ refl refl;
       phase = by-test (λ m. m .phase ≡ Distribution (due n || repeats n)) (due n) a b (sends true) (sends false);
       version = read-choice (λ m. m .version) (due n) a b;
@@ -146,8 +147,8 @@ close-done n e = hit (negotiates (n .phase)) Done WrongPhase e
 pub close-is : (n : Node) → negotiates (n .phase) ≡ true → closeOutcome n ≡ closedNode n
 close-is n e = ap (λ (a : Answer). cond (isDone a) (closedNode n) n) (close-done n e)
 
-pub count-kept : (n : Node) (i : ℕ) → i < 32 → hasBit (n .round .heard) i ≡ false → getD (countsBy n) i 0 ≡ getD (n .epoch .counts) i 0
-count-kept n i l b = getD-counted (n .epoch .counts) (n .round .heard) i l ∙ ap (plus (getD (n .epoch .counts) i 0)) b
+pub count-kept : (n : Node) (i : ℕ) → i < 32 → hasBit (n .round .heard) i ≡ false → getD (countsBy n) i 0 ≡ getD (n .epoch .counters) i 0
+count-kept n i l b = getD-counted (n .epoch .counters) (n .round .heard) i l ∙ ap (plus (getD (n .epoch .counters) i 0)) b
 
 -- Distribution
 
@@ -158,12 +159,12 @@ pub record Took (n : Node) (q : Versioned) (m : Node) : Type 0 where
   pub flags : m .flags ≡ n .flags
   pub round : m .round ≡ n .round
   pub phase : m .phase ≡ n .phase
-  pub counts : m .epoch .counts ≡ n .epoch .counts
+  pub counters : m .epoch .counters ≡ n .epoch .counters
   pub place : m .epoch .place ≡ n .epoch .place
   pub version : m .version ≡ q .version
   pub schedule : m .schedule ≡ q .schedule
   pub request : m .request ≡ requestAt n (q .version)
-  pub met : m .epoch .met ≡ allOf (n .setup .config .nodes)
+  pub interactions : m .epoch .interactions ≡ allOf (n .setup .config .nodes)
   pub updated : m .epoch .updated ≡ (n .epoch .updated && eqb (n .version) (q .version))
   pub determined : m .epoch .determined ≡ cond (eqb (n .version) (q .version)) (n .epoch .determined) free
 
@@ -176,12 +177,12 @@ takes n q =
       flags = refl;
       round = refl;
       phase = refl;
-      counts = refl;
+      counters = refl;
       place = refl;
       version = refl;
       schedule = refl;
       request = refl;
-      met = refl;
+      interactions = refl;
       updated = refl;
       determined = refl;
     }
@@ -223,8 +224,8 @@ pub record Went (n m : Node) : Type 0 where
   pub demand : m .demand ≡ n .demand
   pub request : m .request ≡ n .request
   pub flags : m .flags ≡ n .flags
-  pub counts : m .epoch .counts ≡ n .epoch .counts
-  pub met : m .epoch .met ≡ n .epoch .met
+  pub counters : m .epoch .counters ≡ n .epoch .counters
+  pub interactions : m .epoch .interactions ≡ n .epoch .interactions
   pub place : m .epoch .place ≡ n .epoch .place + 1
   pub updated : m .epoch .updated ≡ n .epoch .updated
   pub determined : m .epoch .determined ≡ n .epoch .determined
@@ -241,8 +242,8 @@ ends n l = go (isWaiting (n .phase)) refl
       demand = refl;
       request = refl;
       flags = refl;
-      counts = refl;
-      met = refl;
+      counters = refl;
+      interactions = refl;
       place = refl;
       updated = refl;
       determined = refl;
@@ -271,7 +272,7 @@ end-begun n l = go (isWaiting (n .phase)) refl
     go true w = subst Begun (sym (end-rejoined n w l)) (begins (n .setup) 0 free (n .demand) (n .demand) (n .flags))
     go false w = subst Begun (sym (end-next-epoch n w l))
         (begins (n .setup) (versionAfter n) (scheduleAfter n) (n .demand) (requestAt n (versionAfter n))
-        (membersOf (n .epoch .counts) (n .setup .node) (n .setup .config .«min_heard»)))
+        (membersOf (n .epoch .counters) (n .setup .node) (n .setup .config .«min_heard»)))
 
 -- the setup stays at every end
 pub end-setup : (n : Node) → endedNode n .setup ≡ n .setup

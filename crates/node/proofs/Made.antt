@@ -173,6 +173,6 @@ waits-so n = refl
 
 pub next-epoch-so : (n : Node) → nextEpoch n
     ≡ begun (n .setup) (versionAfter n) (scheduleAfter n) (n .demand) (requestAt n (versionAfter n))
-    (membersOf (n .epoch .counts) (n .setup .node) (n .setup .config .«min_heard»))
+    (membersOf (n .epoch .counters) (n .setup .node) (n .setup .config .«min_heard»))
 unfolding nextEpoch
 next-epoch-so n = refl

@@ -15,7 +15,7 @@ use Rattle.membership.specs.majority.Majority.{majority}
 use Rattle.membership.proofs.majority.Laws.{majority-most, majority-if}
 use Rattle.node.specs.Figures.{splits, enough, tooFew}
 use Rattle.node.specs.Close.{complete}
-use Rattle.node.specs.End.{interactions, expires}
+use Rattle.node.specs.End.{interactedWith, expires}
 use Rattle.node.specs.declared.Config.{Config}
 use Rattle.node.specs.Model.{Node}
 
@@ -59,13 +59,14 @@ module _ (n : Node) where
   complete-if i m = both i m
 
   -- whom an epoch's end counts: I_e and the node itself
-  pub counts-self : interactions n ≡ withSelf (n .epoch .met) (n .setup .node)
+  pub counts-self : interactedWith n ≡ withSelf (n .epoch .interactions) (n .setup .node)
   counts-self = refl
 
   -- a node that keeps its schedule where the site may not split counts more than half of the nodes
-  pub kept-most : n .setup .config .split ≡ 0 → expires n ≡ false → n .setup .config .nodes < 2 * size (interactions n)
-  kept-most u e = enough-most (n .setup .config) (interactions n) u (not-false _ (sym (too-few (n .setup .config) (interactions n)) ∙ e))
+  pub kept-most : n .setup .config .split ≡ 0 → expires n ≡ false → n .setup .config .nodes < 2 * size (interactedWith n)
+  kept-most u e = enough-most (n .setup .config) (interactedWith n) u
+      (not-false _ (sym (too-few (n .setup .config) (interactedWith n)) ∙ e))
 
   -- and whoever counts enough keeps it
-  pub kept-if : enough (n .setup .config) (interactions n) ≡ true → expires n ≡ false
-  kept-if m = too-few (n .setup .config) (interactions n) ∙ ap not m
+  pub kept-if : enough (n .setup .config) (interactedWith n) ≡ true → expires n ≡ false
+  kept-if m = too-few (n .setup .config) (interactedWith n) ∙ ap not m

@@ -19,7 +19,7 @@ use Rattle.allotment.specs.Allotment.{free}
 use Rattle.allotment.specs.InPlace.{heldBytes, heldIn}
 use Rattle.allotment.specs.Model.{Schedule}
 use Rattle.allotment.proofs.Held.{length-held, free-held, next-held, held-alike}
-use Rattle.node.specs.Core.{pair, dealt, schedulesBy}
+use Rattle.node.specs.Core.{pair, dealtSchedule, schedulesBy}
 use Rattle.node.specs.InPlace.{bothSize, behind, movedThere, movedIn, keeps}
 use Rattle.node.specs.declared.Core.{Core}
 use Rattle.node.specs.Model.{Schedules}
@@ -103,7 +103,7 @@ module _ (l : List ℕ) (at : ℕ) (h : at + bothSize ≤ length l) where
   there-held : (m : Move) (c : Core) → heldPair (movedThere m c l at) at ≡ schedulesBy m c (heldIn l at) (heldIn l (behind at))
   there-held Keep c = refl
   there-held Determine c =
-      let n = dealt c (heldIn l at) in
+      let n = dealtSchedule c (heldIn l at) in
       let x = second-leaves l (heldBytes n) at h (length-held n) in
       let y = next-held (heldIn l at) (c .round .merged) (c .round .known) (c .setup .config .nodes) (c .setup .config .slots) l (behind at)
       (omega (arith, h)) in
@@ -111,7 +111,7 @@ module _ (l : List ℕ) (at : ℕ) (h : at + bothSize ≤ length l) where
   there-held Raise c = cleared-behind next length-next (heldIn l (behind at))
       (copied-held l (behind at) at (omega (arith, h)) (omega (arith, h)))
   there-held DetermineAndRaise c =
-      let n = dealt c (heldIn l at) in
+      let n = dealtSchedule c (heldIn l at) in
       cleared-behind (heldBytes n) (length-held n) n
       (next-held (heldIn l at) (c .round .merged) (c .round .known) (c .setup .config .nodes) (c .setup .config .slots) l at
       (omega (arith, h)))
@@ -123,9 +123,9 @@ module _ (l : List ℕ) (at : ℕ) (h : at + bothSize ≤ length l) where
 
   there-apart : (m : Move) (c : Core) → Apart l (movedThere m c l at) at bothSize
   there-apart Keep c = apart-none l at bothSize
-  there-apart Determine c = let n = dealt c (heldIn l at) in second-apart l (heldBytes n) at h (length-held n)
+  there-apart Determine c = let n = dealtSchedule c (heldIn l at) in second-apart l (heldBytes n) at h (length-held n)
   there-apart Raise c = apart-behind next length-next
-  there-apart DetermineAndRaise c = let n = dealt c (heldIn l at) in apart-behind (heldBytes n) (length-held n)
+  there-apart DetermineAndRaise c = let n = dealtSchedule c (heldIn l at) in apart-behind (heldBytes n) (length-held n)
   there-apart Drop c = second-apart l noSlots at h refl
   there-apart Free c = apart-behind noSlots refl
 

@@ -13,7 +13,7 @@ use Rattle.words.specs.Bits.{hasBit, isIn, isInside, allOf}
 use Rattle.words.proofs.Tests.{by-test, read-choice}
 use Rattle.allotment.specs.Allotment.{topRequest}
 use Rattle.allotment.specs.Model.{Schedule}
-use Rattle.membership.specs.requests.Requests.{requesters, noRequests, lacks, firstOf, lowestMissing}
+use Rattle.membership.specs.requests.Requests.{requesters, noRequests, lacks, firstWith, lowestMissing}
 use Rattle.membership.proofs.requests.Laws.{requesters-has, requesters-only, requesters-union}
 use Rattle.membership.specs.counters.Counters.{counted, withSelf, membersOf}
 use Rattle.node.specs.Answers.{isDone}
@@ -76,8 +76,8 @@ notedBy o q =
       lowest = o .lowest;
       highest = o .highest;
       heard = Bits.bitOr (o .heard) (q .asked);
-      counts = o .counts;
-      met = o .met;
+      counters = o .counters;
+      interactions = o .interactions;
       place = o .place;
       updated = o .updated;
     }
@@ -94,8 +94,8 @@ joinedWith o q asked =
       lowest = min (o .lowest) (q .lowest);
       highest = max (o .highest) (q .highest);
       heard = Bits.bitOr (o .heard) (q .asked);
-      counts = o .counts;
-      met = Bits.bitOr (o .met) (q .asked);
+      counters = o .counters;
+      interactions = Bits.bitOr (o .interactions) (q .asked);
       place = o .place;
       updated = o .updated;
     }
@@ -142,8 +142,8 @@ distributing o v updated sends =
       lowest = 0;
       highest = 0;
       heard = 0;
-      counts = counted (o .counts) (o .heard);
-      met = o .met;
+      counters = counted (o .counters) (o .heard);
+      interactions = o .interactions;
       place = o .place;
       updated = updated;
     }
@@ -192,8 +192,8 @@ takenOutline o v =
       lowest = o .lowest;
       highest = o .highest;
       heard = o .heard;
-      counts = o .counts;
-      met = allOf (o .setup .config .nodes);
+      counters = o .counters;
+      interactions = allOf (o .setup .config .nodes);
       place = o .place;
       updated = o .updated && eqb (o .version) v;
     }
@@ -217,8 +217,8 @@ begunOutline s v flags =
       lowest = v;
       highest = v;
       heard = 0;
-      counts = replicate 32 0;
-      met = 0;
+      counters = replicate 32 0;
+      interactions = 0;
       place = 0;
       updated = false;
     }
@@ -235,8 +235,8 @@ nextRoundBy o asked =
       lowest = o .version;
       highest = o .version;
       heard = 0;
-      counts = o .counts;
-      met = o .met;
+      counters = o .counters;
+      interactions = o .interactions;
       place = o .place + 1;
       updated = o .updated;
     }
@@ -253,21 +253,21 @@ waitsBy o =
       lowest = o .lowest;
       highest = o .highest;
       heard = o .heard;
-      counts = o .counts;
-      met = o .met;
+      counters = o .counters;
+      interactions = o .interactions;
       place = o .place + 1;
       updated = o .updated;
     }
 
 abbrev versionBy : Outline → ℕ
-versionBy o = cond (tooFew (o .setup .config) (withSelf (o .met) (o .setup .node))) 0 (o .version)
+versionBy o = cond (tooFew (o .setup .config) (withSelf (o .interactions) (o .setup .node))) 0 (o .version)
 
 unfoldable pub endedOutline : Outline → Outline
 endedOutline o =
     cond (isWaiting (o .phase))
     (cond (isLast (o .setup .config) (o .place)) (begunOutline (o .setup) 0 (o .flags)) (waitsBy o))
     (cond (isLast (o .setup .config) (o .place))
-    (begunOutline (o .setup) (versionBy o) (membersOf (o .counts) (o .setup .node) (o .setup .config .«min_heard»)))
+    (begunOutline (o .setup) (versionBy o) (membersOf (o .counters) (o .setup .node) (o .setup .config .«min_heard»)))
     (nextRoundBy o (2 ^ (o .setup .node - 1))))
 
 -- a node whose number, demand and request are within their ranges
@@ -291,8 +291,8 @@ begins s v schedule demand request flags a b r =
       lowest = v;
       highest = v;
       heard = 0;
-      counts = replicate 32 0;
-      met = 0;
+      counters = replicate 32 0;
+      interactions = 0;
       place = 0;
       updated = false;
     }) (requesters-only (s .node) request a b r)
@@ -315,7 +315,7 @@ waits-on n = refl
 
 next-epoch : (n : Node) → Fits n
     → outlineOf (nextEpoch n) ≡ begunOutline (n .setup) (versionBy (outlineOf n))
-    (membersOf (n .epoch .counts) (n .setup .node) (n .setup .config .«min_heard»))
+    (membersOf (n .epoch .counters) (n .setup .node) (n .setup .config .«min_heard»))
 unfolding nextEpoch
 next-epoch n h =
     begins (n .setup) _ _ (n .demand) (requestAt n (versionAfter n)) _ (h .from) (h .to)
@@ -358,11 +358,11 @@ unfoldable pub groundBy : Outline → Ground
 groundBy o =
     record {
       rule = cond (dueBy o) NewSent (cond (o .updated) NotDue (firstBy o));
-      missing = firstOf 32 0 (λ i. hasBit (o .merged) i && not (hasBit (o .asked) i));
+      missing = firstWith 32 0 (λ i. hasBit (o .merged) i && not (hasBit (o .asked) i));
     }
 
-first-same : (p t : ℕ → Bool) (k i : ℕ) → ((j : ℕ) → i ≤ j → j < i + k → p j ≡ t j) → firstOf k i p ≡ firstOf k i t
-unfolding firstOf
+first-same : (p t : ℕ → Bool) (k i : ℕ) → ((j : ℕ) → i ≤ j → j < i + k → p j ≡ t j) → firstWith k i p ≡ firstWith k i t
+unfolding firstWith
 first-same p t zero i h = refl
 first-same p t (suc k) i h =
     ap₂ (λ (b : Bool) (x : ℕ). cond b (i + 1) x) (h i (omega arith) (omega arith))
@@ -373,7 +373,7 @@ twice true = refl
 twice false = refl
 
 -- who lacks a request, by who has one
-lacking : (w : ℕ) (l : List ℕ) → lowestMissing w l ≡ firstOf 32 0 (λ i. hasBit w i && not (hasBit (requesters l) i))
+lacking : (w : ℕ) (l : List ℕ) → lowestMissing w l ≡ firstWith 32 0 (λ i. hasBit w i && not (hasBit (requesters l) i))
 unfolding lowestMissing
 lacking w l = first-same (lacks w l) _ 32 0 (λ i a b. ap (λ (t : Bool). hasBit w i && t) (twice _ ∙ sym (ap not (requesters-has l i b))))
 

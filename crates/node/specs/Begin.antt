@@ -18,7 +18,7 @@ use Rattle.node.specs.declared.Answer.the-variants.{Done, OutOfRange, No
 
 -- an epoch of which nothing has been but its place: C_e and I_e are empty, no mark
 abbrev pub emptyEpoch : ℕ → Epoch
-emptyEpoch f = record { counts = replicate 32 0; met = 0; place = f; updated = false; determined = free }
+emptyEpoch f = record { counters = replicate 32 0; interactions = 0; place = f; updated = false; determined = free }
 
 -- a node as an epoch begins, with its version, schedule, demand, request and flags, in the first round's negotiation
 unfoldable pub begun : Setup → ℕ → Schedule → ℕ → ℕ → ℕ → Node

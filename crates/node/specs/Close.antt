@@ -74,7 +74,7 @@ due n = isLast (n .setup .config) (n .epoch .place) && updatedBy n
 
 -- line 35: the version after v with the determined schedule, which are sent; `updated` falls
 unfoldable pub raised : Node → List ℕ → Schedule → Node
-raised n counts determined =
+raised n counters determined =
     record {
       setup = n .setup;
       version = successor (n .version);
@@ -83,19 +83,31 @@ raised n counts determined =
       request = requestAt n (successor (n .version));
       flags = n .flags;
       round = lapsed;
-      epoch = record { counts = counts; met = n .epoch .met; place = n .epoch .place; updated = false; determined = free };
+      epoch = record {
+        counters = counters;
+        interactions = n .epoch .interactions;
+        place = n .epoch .place;
+        updated = false;
+        determined = free;
+      };
       phase = Distribution true;
     }
 
 -- lines 36 and 37: a repeating node sends its version and schedule; any other is silent
 unfoldable pub stayed : Node → List ℕ → Bool → Schedule → Bool → Node
-stayed n counts updated determined sends =
-    moved n lapsed (record { counts = counts; met = n .epoch .met; place = n .epoch .place; updated = updated; determined = determined })
+stayed n counters updated determined sends =
+    moved n lapsed (record {
+      counters = counters;
+      interactions = n .epoch .interactions;
+      place = n .epoch .place;
+      updated = updated;
+      determined = determined;
+    })
     (Distribution sends)
 
 -- C_e after this close
 abbrev pub countsBy : Node → List ℕ
-countsBy n = counted (n .epoch .counts) (n .round .heard)
+countsBy n = counted (n .epoch .counters) (n .round .heard)
 
 -- lines 24 to 37
 unfoldable pub closedNode : Node → Node

@@ -29,8 +29,8 @@ coreOf n =
       phase = n .phase;
       flags = n .flags;
       round = n .round;
-      counts = n .epoch .counts;
-      met = n .epoch .met;
+      counters = n .epoch .counters;
+      interactions = n .epoch .interactions;
       place = n .epoch .place;
       updated = n .epoch .updated;
     }
@@ -49,7 +49,13 @@ nodeOf c p =
       request = c .request;
       flags = c .flags;
       round = c .round;
-      epoch = record { counts = c .counts; met = c .met; place = c .place; updated = c .updated; determined = p .determined };
+      epoch = record {
+        counters = c .counters;
+        interactions = c .interactions;
+        place = c .place;
+        updated = c .updated;
+        determined = p .determined;
+      };
       phase = c .phase;
     }
 
@@ -58,15 +64,15 @@ abbrev pub bare : Core → Node
 bare c = nodeOf c (pair free free)
 
 -- line 27: the schedule that a node determines from the held one
-abbrev pub dealt : Core → Schedule → Schedule
-dealt c held = next held (c .round .merged) (c .round .known) (c .setup .config .nodes) (c .setup .config .slots)
+abbrev pub dealtSchedule : Core → Schedule → Schedule
+dealtSchedule c held = next held (c .round .merged) (c .round .known) (c .setup .config .nodes) (c .setup .config .slots)
 
 -- what a move makes of the two schedules, by the core before the step
 abbrev pub schedulesBy : Move → Core → Schedule → Schedule → Schedules
 schedulesBy Keep c held determined = pair held determined
-schedulesBy Determine c held determined = pair held (dealt c held)
+schedulesBy Determine c held determined = pair held (dealtSchedule c held)
 schedulesBy Raise c held determined = pair determined free
-schedulesBy DetermineAndRaise c held determined = pair (dealt c held) free
+schedulesBy DetermineAndRaise c held determined = pair (dealtSchedule c held) free
 schedulesBy Drop c held determined = pair held free
 schedulesBy Free c held determined = pair free free
 

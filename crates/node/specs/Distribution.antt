@@ -21,8 +21,8 @@ sentBy n = record { version = n .version; schedule = n .schedule }
 unfoldable pub takenEpoch : Node → ℕ → Epoch
 takenEpoch n v =
     record {
-      counts = n .epoch .counts;
-      met = allOf (n .setup .config .nodes);
+      counters = n .epoch .counters;
+      interactions = allOf (n .setup .config .nodes);
       place = n .epoch .place;
       updated = n .epoch .updated && eqb (n .version) v;
       determined = cond (eqb (n .version) v) (n .epoch .determined) free;

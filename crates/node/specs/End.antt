@@ -17,7 +17,13 @@ use Rattle.node.specs.declared.Answer.the-variants.{Done, WrongPhase}
 
 -- an epoch at the next place, and all else as it was
 abbrev pub atNextPlace : Epoch → Epoch
-atNextPlace e = record { counts = e .counts; met = e .met; place = e .place + 1; updated = e .updated; determined = e .determined }
+atNextPlace e = record {
+  counters = e .counters;
+  interactions = e .interactions;
+  place = e .place + 1;
+  updated = e .updated;
+  determined = e .determined;
+}
 
 -- line 43: f grows by 1, and the next round is opened
 unfoldable pub nextRound : Node → Node
@@ -28,12 +34,12 @@ unfoldable pub waitsOn : Node → Node
 waitsOn n = moved n (n .round) (atNextPlace (n .epoch)) Waiting
 
 -- the nodes that an epoch's end counts: I_e and the node itself, heard or not. The own rule of S-1: line 47 of the paper counts I_e alone
-abbrev pub interactions : Node → ℕ
-interactions n = withSelf (n .epoch .met) (n .setup .node)
+abbrev pub interactedWith : Node → ℕ
+interactedWith n = withSelf (n .epoch .interactions) (n .setup .node)
 
 -- line 47: they are N/2 or fewer, and the site may not split
 abbrev pub expires : Node → Bool
-expires n = tooFew (n .setup .config) (interactions n)
+expires n = tooFew (n .setup .config) (interactedWith n)
 
 -- line 48: then v = 0, and at version 0 all slots are free
 abbrev pub versionAfter : Node → ℕ
@@ -45,7 +51,7 @@ scheduleAfter n = cond (expires n) free (n .schedule)
 -- lines 44 to 55: the epoch ends, and the next begins
 unfoldable pub nextEpoch : Node → Node
 nextEpoch n = begun (n .setup) (versionAfter n) (scheduleAfter n) (n .demand) (requestAt n (versionAfter n))
-    (membersOf (n .epoch .counts) (n .setup .node) (n .setup .config .«min_heard»))
+    (membersOf (n .epoch .counters) (n .setup .node) (n .setup .config .«min_heard»))
 
 -- a restarted node begins with the next epoch, at version 0 and with the flags of its restart (the specification's own rule, 3.5)
 abbrev pub rejoined : Node → Node

@@ -8,7 +8,7 @@ use lib.ListN.{length}
 use Rattle.lists.specs.Bytes.{span, written}
 use Rattle.masks.specs.Bytes.{masksSize, noSlots}
 use Rattle.allotment.specs.InPlace.{heldBytes, heldIn}
-use Rattle.node.specs.Core.{dealt}
+use Rattle.node.specs.Core.{dealtSchedule}
 use Rattle.node.specs.declared.Core.{Core}
 use Rattle.node.specs.declared.Move.{Move}
 use Rattle.node.specs.declared.Move.the-variants.{Keep, Determine, Raise, DetermineAndRaise, Drop, Free}
@@ -22,9 +22,9 @@ behind at = at + masksSize
 
 -- line 27: what a node determines from the schedule that it holds, written to a place
 abbrev pub dealtIn : Core → List ℕ → ℕ → ℕ → List ℕ
-dealtIn c l at to = written l to (heldBytes (dealt c (heldIn l at)))
+dealtIn c l at to = written l to (heldBytes (dealtSchedule c (heldIn l at)))
 
--- what a move makes of both, by the core before the step: masks that a move leaves or copies are the same bytes, tidy or not
+-- what a move makes of both, by the core before the step: masks that a move leaves or copies are the same bytes, well formed or not
 abbrev pub movedThere : Move → Core → List ℕ → ℕ → List ℕ
 movedThere Keep c l at = l
 movedThere Determine c l at = dealtIn c l at (behind at)

@@ -47,4 +47,4 @@ countedRule n =
 
 -- the flags of the next round
 abbrev pub flagsAfter : Core → Bool → ℕ
-flagsAfter c last = cond last (membersOf (c .counts) (c .setup .node) (c .setup .config .«min_heard»)) (c .flags)
+flagsAfter c last = cond last (membersOf (c .counters) (c .setup .node) (c .setup .config .«min_heard»)) (c .flags)

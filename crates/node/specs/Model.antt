@@ -11,8 +11,8 @@ use Rattle.node.specs.declared.Phase.{Phase}
 
 -- for the epoch: C_e, I_e, the place f, and perhaps a determined schedule with the mark `updated`
 pub record Epoch : Type 0 where
-  pub counts : List ℕ
-  pub met : ℕ
+  pub counters : List ℕ
+  pub interactions : ℕ
   pub place : ℕ
   pub updated : Bool
   pub determined : Schedule

@@ -57,8 +57,8 @@ joined r q =
 -- line 18: those nodes also enter I_e
 unfoldable pub interacted : Epoch → Packet → Epoch
 interacted e q = record {
-  counts = e .counts;
-  met = Bits.bitOr (e .met) (requesters (q .requests));
+  counters = e .counters;
+  interactions = Bits.bitOr (e .interactions) (requesters (q .requests));
   place = e .place;
   updated = e .updated;
   determined = e .determined;

@@ -21,8 +21,8 @@ pub record Outline : Type 0 where
   pub highest : ℕ
   pub heard : ℕ
   -- of the epoch: C_e, I_e, f, and the mark `updated`
-  pub counts : List ℕ
-  pub met : ℕ
+  pub counters : List ℕ
+  pub interactions : ℕ
   pub place : ℕ
   pub updated : Bool
 
@@ -38,8 +38,8 @@ outlineOf n =
       lowest = n .round .lowest;
       highest = n .round .highest;
       heard = n .round .heard;
-      counts = n .epoch .counts;
-      met = n .epoch .met;
+      counters = n .epoch .counters;
+      interactions = n .epoch .interactions;
       place = n .epoch .place;
       updated = n .epoch .updated;
     }

@@ -23,8 +23,8 @@ impl Core {
             phase: Phase::Negotiation,
             flags,
             round,
-            counts: [0u8; 32],
-            met: 0,
+            counters: [0u8; 32],
+            interactions: 0,
             place: 0,
             updated: false,
         }
@@ -50,8 +50,8 @@ impl Core {
             phase: Phase::Waiting,
             flags,
             round,
-            counts: [0u8; 32],
-            met: 0,
+            counters: [0u8; 32],
+            interactions: 0,
             place,
             updated: false,
         }

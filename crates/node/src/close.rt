@@ -147,7 +147,7 @@ impl Core {
     {
         let setup = self.setup;
         let r = self.round;
-        let old = self.counts;
+        let old = self.counters;
         let v = verdict_of(self.first_rule());
         let determines = is_determining(v);
         let updated = determines | self.updated;
@@ -155,7 +155,7 @@ impl Core {
         let version = version_after(due, self.version);
         let request = self.request_at(version);
         let round = no_round();
-        let counts = membership::counters::count_heard(old, r.heard);
+        let counters = membership::counters::count_heard(old, r.heard);
         let sends = due | is_repeating(v);
         let change = close_move(due, determines);
         CoreStep {
@@ -167,8 +167,8 @@ impl Core {
                 phase: Phase::Distribution { sends },
                 flags: self.flags,
                 round,
-                counts,
-                met: self.met,
+                counters,
+                interactions: self.interactions,
                 place: self.place,
                 updated: updated & !due,
             },

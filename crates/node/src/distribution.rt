@@ -24,7 +24,7 @@ impl Core {
         let change = take_move(same);
         self.version = v;
         self.request = request;
-        self.met = words::all(s.config.nodes);
+        self.interactions = words::all(s.config.nodes);
         self.updated = self.updated & same;
         CoreStep { core: self, change }
     }

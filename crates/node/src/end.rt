@@ -39,7 +39,7 @@ impl Core {
         ensures { λ r. ⌜ r ≡ coreOf (waitsOn (bare self)) ⌝ }
     {
         let setup = self.setup;
-        let counts = self.counts;
+        let counters = self.counters;
         let round = self.round;
         Core {
             setup,
@@ -49,8 +49,8 @@ impl Core {
             phase: Phase::Waiting,
             flags: self.flags,
             round,
-            counts,
-            met: self.met,
+            counters,
+            interactions: self.interactions,
             place: self.place + 1,
             updated: self.updated,
         }
@@ -65,7 +65,7 @@ impl Core {
         }
         let s = self.setup;
         s.config
-            .is_too_few(membership::counters::with_self(self.met, s.node))
+            .is_too_few(membership::counters::with_self(self.interactions, s.node))
     }
 
     // Lines 51 to 54.
@@ -73,9 +73,9 @@ impl Core {
         ensures { λ r. ⌜ r ≡ flagsAfter self last ⌝ }
     {
         let s = self.setup;
-        let counts = self.counts;
+        let counters = self.counters;
         if last {
-            return membership::counters::members_of(counts, s.node, s.config.min_heard);
+            return membership::counters::members_of(counters, s.node, s.config.min_heard);
         }
         self.flags
     }
@@ -96,15 +96,15 @@ impl Core {
         ensures { λ r. ⌜ r ≡ coreTurned self ⌝ }
     {
         let setup = self.setup;
-        let old = self.counts;
+        let old = self.counters;
         let last = setup.config.is_last(self.place);
         let expired = self.is_expired(last);
         let flags = self.flags_after(last);
         let version = left(expired, self.version);
         let request = self.request_at(version);
         let round = opening(setup.node, version, flags, request);
-        let counts = membership::counters::kept(old, last);
-        let met = left(last, self.met);
+        let counters = membership::counters::kept(old, last);
+        let interactions = left(last, self.interactions);
         let place = self.place_after(last);
         let change = end_move(last, expired);
         CoreStep {
@@ -116,8 +116,8 @@ impl Core {
                 phase: Phase::Negotiation,
                 flags,
                 round,
-                counts,
-                met,
+                counters,
+                interactions,
                 place,
                 updated: self.updated & !last,
             },

@@ -62,8 +62,8 @@ pub struct Core {
     pub phase: Phase,
     pub flags: u32,
     pub round: Round,
-    pub counts: [u8; 32],
-    pub met: u32,
+    pub counters: [u8; 32],
+    pub interactions: u32,
     pub place: u32,
     pub updated: bool,
 }

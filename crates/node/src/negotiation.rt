@@ -129,7 +129,7 @@ impl Core {
         let from = membership::requests::requesters(list);
         if self.merges(q) {
             self.round = round.join(q, from);
-            self.met = self.met | from;
+            self.interactions = self.interactions | from;
             return self;
         }
         self.round = round.note(q, from);

@@ -31,7 +31,7 @@ use Rattle.node.specs.Begin.{emptyEpoch, begun, starting, waiting, startAnswer,
 use Rattle.node.specs.End.{atNextPlace, nextRound, waitsOn, expires, versionAfter, scheduleAfter, nextEpoch, endedNode, endAnswer}
 use Rattle.membership.specs.counters.Counters.{membersOf}
 use Rattle.node.specs.Steps.{wantedNode}
-use Rattle.range.specs.Range.{scheduleOk, roundOk, closes, waitingOk, phaseOk, inRange}
+use Rattle.range.specs.Range.{scheduleOk, roundOk, closesSeen, waitingOk, phaseOk, inRange}
 use Rattle.node.specs.declared.Config.{Config}
 use Rattle.node.specs.declared.Setup.{Setup}
 use Rattle.node.specs.declared.Round.{Round}
@@ -120,8 +120,8 @@ begun-in s v schedule demand request flags t a b c d e f =
       phase = negotiated n (opened-ok n t a d e f refl);
       epoch = record {
         place = t .bounds .rounds-from;
-        counts = zeros-bounded 32 (s .config .nodes) 0;
-        met = pow-pos (s .config .nodes);
+        counters = zeros-bounded 32 (s .config .nodes) 0;
+        interactions = pow-pos (s .config .nodes);
         determined = free-ok false s;
         marked = λ z. never (sym z);
       };
@@ -174,8 +174,8 @@ heardBy n q t =
       heard = Bits.bitOr (n .round .heard) (requesters (q .requests));
     })
     (record {
-      counts = n .epoch .counts;
-      met = cond t (Bits.bitOr (n .epoch .met) (requesters (q .requests))) (n .epoch .met);
+      counters = n .epoch .counters;
+      interactions = cond t (Bits.bitOr (n .epoch .interactions) (requesters (q .requests))) (n .epoch .interactions);
       place = n .epoch .place;
       updated = n .epoch .updated;
       determined = n .epoch .determined;
@@ -192,7 +192,13 @@ heard-is n q =
       request = h .request i;
       flags = h .flags i;
       round = record { merged = h .merged i; known = h .known i; lowest = h .lowest i; highest = h .highest i; heard = h .heard i };
-      epoch = record { counts = h .counts i; met = h .met i; place = h .place i; updated = h .updated i; determined = h .determined i };
+      epoch = record {
+        counters = h .counters i;
+        interactions = h .interactions i;
+        place = h .place i;
+        updated = h .updated i;
+        determined = h .determined i;
+      };
       phase = h .phase i;
     }
 
@@ -238,8 +244,8 @@ keeps-hear n q h d f = ap inRange (heard-is n q) ∙ go (merges n q)
         })
         (record {
           place = e .place;
-          counts = e .counts;
-          met = or-lt (n .setup .config .nodes) (n .epoch .met) (requesters (q .requests)) (e .met) w-lt;
+          counters = e .counters;
+          interactions = or-lt (n .setup .config .nodes) (n .epoch .interactions) (requesters (q .requests)) (e .interactions) w-lt;
           determined = e .determined;
           marked = e .marked;
         })
@@ -255,7 +261,13 @@ keeps-hear n q h d f = ap inRange (heard-is n q) ∙ go (merges n q)
           own = o .own;
           heard = or-lt (n .setup .config .nodes) (n .round .heard) (requesters (q .requests)) (o .heard) w-lt;
         })
-        (record { place = e .place; counts = e .counts; met = e .met; determined = e .determined; marked = e .marked })
+        (record {
+          place = e .place;
+          counters = e .counters;
+          interactions = e .interactions;
+          determined = e .determined;
+          marked = e .marked;
+        })
 
 -- Close
 
@@ -294,8 +306,8 @@ closedBy n t =
       flags = n .flags;
       round = lapsed;
       epoch = record {
-        counts = countsBy n;
-        met = n .epoch .met;
+        counters = countsBy n;
+        interactions = n .epoch .interactions;
         place = n .epoch .place;
         updated = cond t false (updatedBy n);
         determined = cond t free (determinedBy n);
@@ -314,7 +326,13 @@ closed-is n =
       request = c .request i;
       flags = c .flags i;
       round = c .round i;
-      epoch = record { counts = c .counts i; met = c .met i; place = c .place i; updated = c .updated i; determined = c .determined i };
+      epoch = record {
+        counters = c .counters i;
+        interactions = c .interactions i;
+        place = c .place i;
+        updated = c .updated i;
+        determined = c .determined i;
+      };
       phase = c .phase i;
     }
 
@@ -330,7 +348,7 @@ keeps-close n h d = ap inRange (closed-is n) ∙ go (due n) refl
     c : bounded (countsBy n) (n .setup .config .nodes) (n .epoch .place + 1) ≡ true
     c =
         let p = close-negotiates n d in
-        counted-bounded (n .epoch .counts) (n .round .heard) (n .setup .config .nodes) (n .epoch .place) (r .setting .bounds .nodes-to)
+        counted-bounded (n .epoch .counters) (n .round .heard) (n .setup .config .nodes) (n .epoch .place) (r .setting .bounds .nodes-to)
         (counts-negotiating n r p) (at-negotiation n r p .heard)
 
     go : (t : Bool) → due n ≡ t → inRange (closedBy n t) ≡ true
@@ -346,12 +364,18 @@ keeps-close n h d = ap inRange (closed-is n) ∙ go (due n) refl
           flags = r .flags;
           own = r .own;
           phase = lapsed-ok;
-          epoch = record { place = e .place; counts = c; met = e .met; determined = free-ok false (n .setup); marked = λ z. never (sym z) };
+          epoch = record {
+            place = e .place;
+            counters = c;
+            interactions = e .interactions;
+            determined = free-ok false (n .setup);
+            marked = λ z. never (sym z);
+          };
         })
     go false t = moved-in n r lapsed (closedBy n false .epoch) (closedBy n false .phase) lapsed-ok (record {
       place = e .place;
-      counts = c;
-      met = e .met;
+      counters = c;
+      interactions = e .interactions;
       determined = determined-ok n r;
       marked = marked-by n r;
     })
@@ -369,8 +393,8 @@ takenBy n q =
       flags = n .flags;
       round = n .round;
       epoch = record {
-        counts = n .epoch .counts;
-        met = allOf (n .setup .config .nodes);
+        counters = n .epoch .counters;
+        interactions = allOf (n .setup .config .nodes);
         place = n .epoch .place;
         updated = n .epoch .updated && eqb (n .version) (q .version);
         determined = cond (eqb (n .version) (q .version)) (n .epoch .determined) free;
@@ -389,7 +413,13 @@ taken-is n q =
       request = t .request i;
       flags = t .flags i;
       round = t .round i;
-      epoch = record { counts = t .counts i; met = t .met i; place = t .place i; updated = t .updated i; determined = t .determined i };
+      epoch = record {
+        counters = t .counters i;
+        interactions = t .interactions i;
+        place = t .place i;
+        updated = t .updated i;
+        determined = t .determined i;
+      };
       phase = t .phase i;
     }
 
@@ -413,8 +443,8 @@ keeps-take n q h d v w =
       phase = ap (λ (x : Phase). phaseOk x m) p ∙ sym (ap (λ (x : Phase). phaseOk x n) p) ∙ r .phase;
       epoch = record {
         place = e .place;
-        counts = e .counts;
-        met = allOf-lt (n .setup .config .nodes);
+        counters = e .counters;
+        interactions = allOf-lt (n .setup .config .nodes);
         determined = drops (eqb (n .version) (q .version)) (n .epoch .updated) (e .determined);
         marked = λ u.
             let old = e .marked (and-left (n .epoch .updated) _ u) in
@@ -439,8 +469,8 @@ not-last : (f : Config) (p : ℕ) → isLast f p ≡ false → p + 1 < f .rounds
 not-last f p h = leb-false (f .rounds) (p + 1) h
 
 -- the closes seen in distribution at one place are those seen in negotiation at the next
-closes-next : (p : Phase) (f : ℕ) → negotiates p ≡ false → isWaiting p ≡ false → closes p f ≡ f + 1
-closes-next p f = by-tests (λ (x : Phase) (w t s : Bool). t ≡ false → w ≡ false → closes x f ≡ f + 1)
+closes-next : (p : Phase) (f : ℕ) → negotiates p ≡ false → isWaiting p ≡ false → closesSeen p f ≡ f + 1
+closes-next p f = by-tests (λ (x : Phase) (w t s : Bool). t ≡ false → w ≡ false → closesSeen x f ≡ f + 1)
     (λ a b. never b) (λ a b. never a) (λ s a b. refl) p
 
 keeps-next-round : (n : Node) → Ranges n → negotiates (n .phase) ≡ false → isWaiting (n .phase) ≡ false
@@ -453,9 +483,10 @@ keeps-next-round n r a b l =
     (opened-ok m (r .setting) (r .version) (r .request) (r .flags) (r .own) refl))
     (record {
       place = not-last (n .setup .config) (n .epoch .place) l;
-      counts = sym (ap (λ (x : ℕ). bounded (n .epoch .counts) (n .setup .config .nodes) x) (closes-next (n .phase) (n .epoch .place) a b))
-          ∙ e .counts;
-      met = e .met;
+      counters = sym (ap (λ (x : ℕ). bounded (n .epoch .counters) (n .setup .config .nodes) x)
+          (closes-next (n .phase) (n .epoch .place) a b))
+          ∙ e .counters;
+      interactions = e .interactions;
       determined = e .determined;
       marked = e .marked;
     })
@@ -470,14 +501,14 @@ keeps-waits-on n r b l =
     ∙ moved-in n r (n .round) (m .epoch) Waiting (waited m (record {
       version = w .version;
       request = w .request;
-      met = w .met;
+      interactions = w .interactions;
       updated = w .updated;
       round = w .round;
     }))
     (record {
       place = not-last (n .setup .config) (n .epoch .place) l;
-      counts = counts-waiting n r b;
-      met = e .met;
+      counters = counts-waiting n r b;
+      interactions = e .interactions;
       determined = e .determined;
       marked = e .marked;
     })
@@ -487,15 +518,16 @@ keeps-next-epoch n r =
     let s = r .setting in
     ap inRange (next-epoch-so n)
     ∙ begun-in (n .setup) (versionAfter n) (scheduleAfter n) (n .demand) (requestAt n (versionAfter n))
-    (membersOf (n .epoch .counts) (n .setup .node) (n .setup .config .«min_heard»)) s
+    (membersOf (n .epoch .counters) (n .setup .node) (n .setup .config .«min_heard»)) s
     (by-test (λ (x : ℕ). x ≤ topVersion) (expires n) 0 (n .version) (λ e. omega arith) (λ e. r .version))
     (go (expires n))
     (r .demand)
     (request-at-le n (versionAfter n) r)
-    (members-below (n .epoch .counts) (n .setup .node) (n .setup .config .«min_heard») (n .setup .config .nodes) (s .bounds .nodes-to)
+    (members-below (n .epoch .counters) (n .setup .node) (n .setup .config .«min_heard») (n .setup .config .nodes) (s .bounds .nodes-to)
     (s .node-to) (s .bounds .heard-from)
-    (λ i l m. bounded-over (n .epoch .counts) (n .setup .config .nodes) (closes (n .phase) (n .epoch .place)) (r .epoch .counts) i l))
-    (members-own (n .epoch .counts) (n .setup .node) (n .setup .config .«min_heard») (s .node-from)
+    (λ i l m. bounded-over (n .epoch .counters) (n .setup .config .nodes) (closesSeen (n .phase) (n .epoch .place))
+    (r .epoch .counters) i l))
+    (members-own (n .epoch .counters) (n .setup .node) (n .setup .config .«min_heard») (s .node-from)
     (omega (arith, s .node-to, s .bounds .nodes-to)))
   where
     go : (t : Bool) → scheduleOk (cond t free (n .schedule)) (ltb 0 (cond t 0 (n .version))) (n .setup) ≡ true
@@ -549,11 +581,11 @@ keeps-restart s flags f demand h k =
       request = omega arith;
       flags = flags-below s flags (t .flags);
       own = flags-own s flags (t .flags) (t .node);
-      phase = waited m (record { version = refl; request = refl; met = refl; updated = refl; round = refl });
+      phase = waited m (record { version = refl; request = refl; interactions = refl; updated = refl; round = refl });
       epoch = record {
         place = t .place;
-        counts = zeros-bounded 32 (s .config .nodes) 0;
-        met = pow-pos (s .config .nodes);
+        counters = zeros-bounded 32 (s .config .nodes) 0;
+        interactions = pow-pos (s .config .nodes);
         determined = free-ok false s;
         marked = λ z. never (sym z);
       };
@@ -594,5 +626,11 @@ keeps-want n d h k =
       flags = r .flags;
       own = r .own;
       phase = wanted-phase (n .phase) n d ∙ r .phase;
-      epoch = record { place = e .place; counts = e .counts; met = e .met; determined = e .determined; marked = e .marked };
+      epoch = record {
+        place = e .place;
+        counters = e .counters;
+        interactions = e .interactions;
+        determined = e .determined;
+        marked = e .marked;
+      };
     })

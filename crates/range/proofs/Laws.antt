@@ -73,13 +73,13 @@ sends-above n h p y = go (due n) refl
 
 -- C_e: a node that was heard counts one more, any other as before
 pub count-heard : (n : Node) (i : ℕ) → inRange n ≡ true → negotiates (n .phase) ≡ true → i < 32 → hasBit (n .round .heard) i ≡ true
-    → getD (countsBy n) i 0 ≡ getD (n .epoch .counts) i 0 + 1
+    → getD (countsBy n) i 0 ≡ getD (n .epoch .counters) i 0 + 1
 count-heard n i h p l b =
     let r = ranges n h in
-    let c : getD (n .epoch .counts) i 0 ≤ n .epoch .place = bounded-at (n .epoch .counts) (n .setup .config .nodes) (n .epoch .place)
+    let c : getD (n .epoch .counters) i 0 ≤ n .epoch .place = bounded-at (n .epoch .counters) (n .setup .config .nodes) (n .epoch .place)
     (counts-negotiating n r p) i in
-    let k : getD (n .epoch .counts) i 0 < 255 = omega (arith, r .epoch .place, r .setting .bounds .rounds-to) in
-    getD-counted (n .epoch .counts) (n .round .heard) i l ∙ ap (plus (getD (n .epoch .counts) i 0)) b ∙ hit _ _ _ (lt-ltb _ _ k)
+    let k : getD (n .epoch .counters) i 0 < 255 = omega (arith, r .epoch .place, r .setting .bounds .rounds-to) in
+    getD-counted (n .epoch .counters) (n .round .heard) i l ∙ ap (plus (getD (n .epoch .counters) i 0)) b ∙ hit _ _ _ (lt-ltb _ _ k)
 
 -- what a node of the same site sends can be taken
 pub sent-version : (n : Node) → inRange n ≡ true → sentBy n .version ≤ topVersion

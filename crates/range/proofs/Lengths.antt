@@ -37,7 +37,7 @@ use Rattle.membership.proofs.counters.Laws.{length-counted}
 pub record Lengths (n : Node) : Type 0 where
   pub schedule : length (ownersOf (n .schedule)) ≡ 80
   pub known : length (n .round .known) ≡ 32
-  pub counts : length (n .epoch .counts) ≡ 32
+  pub counters : length (n .epoch .counters) ≡ 32
   pub determined : length (ownersOf (n .epoch .determined)) ≡ 80
 
 -- the list of a round just opened
@@ -50,7 +50,7 @@ long-begun s v schedule demand request flags h =
     subst Lengths (sym (begun-so s v schedule demand request flags)) (record {
       schedule = h;
       known = long-opened (s .node) v flags request;
-      counts = refl;
+      counters = refl;
       determined = length-free;
     })
 
@@ -61,7 +61,7 @@ pub long-restart : (s : Setup) (flags f demand : ℕ) → Lengths (waiting s fla
 long-restart s flags f demand = subst Lengths (sym (waiting-so s flags f demand)) (record {
   schedule = length-free;
   known = refl;
-  counts = refl;
+  counters = refl;
   determined = length-free;
 })
 
@@ -76,7 +76,7 @@ long-hear n q h =
       schedule = ap (λ (s : Schedule). length (ownersOf s)) (k .schedule) ∙ h .schedule;
       known = ap length (k .known) ∙ by-test (λ (l : List ℕ). length l ≡ 32) (merges n q) _ _
           (λ t. length-union (n .round .known) (q .requests)) (λ t. h .known);
-      counts = ap length (k .counts) ∙ h .counts;
+      counters = ap length (k .counters) ∙ h .counters;
       determined = ap (λ (s : Schedule). length (ownersOf s)) (k .determined) ∙ h .determined;
     }
 
@@ -92,7 +92,7 @@ long-close n h =
       schedule = ap (λ (s : Schedule). length (ownersOf s)) (k .schedule)
           ∙ either-schedule (due n) (determinedBy n) (n .schedule) (long-determined n h) (h .schedule);
       known = ap (λ (r : Round). length (r .known)) (k .round);
-      counts = ap length (k .counts) ∙ length-counted (n .epoch .counts) (n .round .heard);
+      counters = ap length (k .counters) ∙ length-counted (n .epoch .counters) (n .round .heard);
       determined = ap (λ (s : Schedule). length (ownersOf s)) (k .determined)
           ∙ either-schedule (due n) free (determinedBy n) length-free (long-determined n h);
     }
@@ -103,7 +103,7 @@ long-take n q h k =
     record {
       schedule = ap (λ (s : Schedule). length (ownersOf s)) (t .schedule) ∙ k;
       known = ap (λ (r : Round). length (r .known)) (t .round) ∙ h .known;
-      counts = ap length (t .counts) ∙ h .counts;
+      counters = ap length (t .counters) ∙ h .counters;
       determined = ap (λ (s : Schedule). length (ownersOf s)) (t .determined)
           ∙ either-schedule (eqb (n .version) (q .version)) (n .epoch .determined) free (h .determined) length-free;
     }
@@ -117,7 +117,7 @@ long-end n h = go (isWaiting (n .phase)) refl (isLast (n .setup .config) (n .epo
     go true w false l = subst Lengths (sym (end-waits-on n w l ∙ waits-so n)) (record {
       schedule = h .schedule;
       known = h .known;
-      counts = h .counts;
+      counters = h .counters;
       determined = h .determined;
     })
     go false w true l =
@@ -128,7 +128,7 @@ long-end n h = go (isWaiting (n .phase)) refl (isLast (n .setup .config) (n .epo
         (record {
           schedule = h .schedule;
           known = long-opened (n .setup .node) (n .version) (n .flags) (n .request);
-          counts = h .counts;
+          counters = h .counters;
           determined = h .determined;
         })
 
@@ -136,7 +136,7 @@ pub long-want : (n : Node) (d : ℕ) → Lengths n → Lengths (wantedNode n d)
 long-want n d h = subst Lengths (sym (wanted-so n d)) (record {
   schedule = h .schedule;
   known = h .known;
-  counts = h .counts;
+  counters = h .counters;
   determined = h .determined;
 })
 
@@ -154,7 +154,7 @@ pub record Words (n : Node) : Type 0 where
   pub lowest : n .round .lowest < 2 ^ 32
   pub highest : n .round .highest < 2 ^ 32
   pub heard : n .round .heard < 2 ^ 32
-  pub met : n .epoch .met < 2 ^ 32
+  pub interactions : n .epoch .interactions < 2 ^ 32
   pub place : n .epoch .place < 2 ^ 32
   pub demand : n .demand < 256
   pub request : n .request < 256
@@ -215,7 +215,7 @@ words n h =
       lowest = t .lowest;
       highest = t .highest;
       heard = t .heard;
-      met = lt-of-lt-of-le (r .epoch .met) up;
+      interactions = lt-of-lt-of-le (r .epoch .interactions) up;
       place = f;
       demand = omega (arith, r .demand);
       request = omega (arith, r .request);

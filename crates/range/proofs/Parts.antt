@@ -12,7 +12,7 @@ use Rattle.node.specs.Core.{coreOf, bare}
 use Rattle.node.specs.Model.{Node}
 use Rattle.node.specs.declared.Phase.{Phase}
 use Rattle.node.specs.declared.Phase.the-variants.{Waiting, Negotiation, Distribution}
-use Rattle.range.specs.Range.{scheduleOk, roundOk, closes, epochOk, waitingOk, phaseOk, inRange}
+use Rattle.range.specs.Range.{scheduleOk, roundOk, closesSeen, epochOk, waitingOk, phaseOk, inRange}
 use Rattle.range.proofs.Keeps.{free-ok}
 
 off : (x : Bool) → false ≡ (x && false)
@@ -48,8 +48,8 @@ by-parts n =
     (scheduleOk (n .schedule) (ltb 0 (n .version)) (n .setup)) (leb (n .demand) topRequest && leb (n .request) topRequest)
     (ltb (n .flags) (2 ^ n .setup .config .nodes) && isIn (n .flags) (n .setup .node)) (phaseOk (n .phase) n)
     (ltb (n .epoch .place) (n .setup .config .rounds))
-    (bounded (n .epoch .counts) (n .setup .config .nodes) (closes (n .phase) (n .epoch .place))
-    && ltb (n .epoch .met) (2 ^ n .setup .config .nodes))
+    (bounded (n .epoch .counters) (n .setup .config .nodes) (closesSeen (n .phase) (n .epoch .place))
+    && ltb (n .epoch .interactions) (2 ^ n .setup .config .nodes))
     (scheduleOk (n .epoch .determined) (n .epoch .updated) (n .setup))
     (not (n .epoch .updated) || ltb (n .version) topVersion)
     ∙ sym (λ i.
@@ -57,8 +57,8 @@ by-parts n =
     && ((leb (n .version) topVersion && free-ok (ltb 0 (n .version)) (n .setup) i)
     && ((leb (n .demand) topRequest && leb (n .request) topRequest)
     && ((ltb (n .flags) (2 ^ n .setup .config .nodes) && isIn (n .flags) (n .setup .node)) && (phase-same (n .phase) n i
-    && (ltb (n .epoch .place) (n .setup .config .rounds) && ((bounded (n .epoch .counts) (n .setup .config .nodes)
-    (closes (n .phase) (n .epoch .place))
-    && ltb (n .epoch .met) (2 ^ n .setup .config .nodes))
+    && (ltb (n .epoch .place) (n .setup .config .rounds) && ((bounded (n .epoch .counters) (n .setup .config .nodes)
+    (closesSeen (n .phase) (n .epoch .place))
+    && ltb (n .epoch .interactions) (2 ^ n .setup .config .nodes))
     && (free-ok (n .epoch .updated) (n .setup) i && (not (n .epoch .updated) || ltb (n .version) topVersion)))))))))
     && (scheduleOk (n .schedule) (ltb 0 (n .version)) (n .setup) && scheduleOk (n .epoch .determined) (n .epoch .updated) (n .setup)))

@@ -15,7 +15,7 @@ use Rattle.membership.specs.requests.Requests.{entryOf, requestsWithin, noReque
 use Rattle.node.specs.Figures.{topVersion, configOk, isNode, negotiates, isWaiting}
 use Rattle.node.specs.Close.{lapsed}
 use Rattle.node.proofs.Bounds.{Bounds, bounds, in-bounds}
-use Rattle.range.specs.Range.{scheduleOk, roundOk, roundLapsed, closes, epochOk, waitingOk, phaseOk, inRange}
+use Rattle.range.specs.Range.{scheduleOk, roundOk, roundLapsed, closesSeen, epochOk, waitingOk, phaseOk, inRange}
 use Rattle.node.specs.declared.Setup.{Setup}
 use Rattle.node.specs.declared.Round.{Round}
 use Rattle.node.specs.Model.{Node}
@@ -47,8 +47,8 @@ set-node s t = both (le-leb _ _ (t .node-from)) (le-leb _ _ (t .node-to))
 
 pub record Epochs (n : Node) : Type 0 where
   pub place : n .epoch .place < n .setup .config .rounds
-  pub counts : bounded (n .epoch .counts) (n .setup .config .nodes) (closes (n .phase) (n .epoch .place)) ≡ true
-  pub met : n .epoch .met < 2 ^ n .setup .config .nodes
+  pub counters : bounded (n .epoch .counters) (n .setup .config .nodes) (closesSeen (n .phase) (n .epoch .place)) ≡ true
+  pub interactions : n .epoch .interactions < 2 ^ n .setup .config .nodes
   pub determined : scheduleOk (n .epoch .determined) (n .epoch .updated) (n .setup) ≡ true
   pub marked : n .epoch .updated ≡ true → n .version < topVersion
 
@@ -56,8 +56,8 @@ pub epochs : (n : Node) → epochOk n ≡ true → Epochs n
 unfolding epochOk
 epochs n h =
     let p = ltb (n .epoch .place) (n .setup .config .rounds) in
-    let c = bounded (n .epoch .counts) (n .setup .config .nodes) (closes (n .phase) (n .epoch .place)) in
-    let m = ltb (n .epoch .met) (2 ^ n .setup .config .nodes) in
+    let c = bounded (n .epoch .counters) (n .setup .config .nodes) (closesSeen (n .phase) (n .epoch .place)) in
+    let m = ltb (n .epoch .interactions) (2 ^ n .setup .config .nodes) in
     let d = scheduleOk (n .epoch .determined) (n .epoch .updated) (n .setup) in
     let v = ltb (n .version) topVersion in
     let u = not (n .epoch .updated) || v in
@@ -66,8 +66,8 @@ epochs n h =
     let h3 : (d && u) ≡ true = and-right (c && m) (d && u) h1 in
     record {
       place = ltb-true _ _ (and-left p ((c && m) && (d && u)) h);
-      counts = and-left c m h2;
-      met = ltb-true _ _ (and-right c m h2);
+      counters = and-left c m h2;
+      interactions = ltb-true _ _ (and-right c m h2);
       determined = and-left d u h3;
       marked = λ e.
           ltb-true _ _ (implied (n .epoch .updated) v (and-right d u h3) e);
@@ -77,7 +77,7 @@ pub epoched : (n : Node) → Epochs n → epochOk n ≡ true
 unfolding epochOk
 epoched n e =
     both (lt-ltb _ _ (e .place))
-    (both (both (e .counts) (lt-ltb _ _ (e .met)))
+    (both (both (e .counters) (lt-ltb _ _ (e .interactions)))
     (both (e .determined) (imply (n .epoch .updated) (ltb (n .version) topVersion) (λ u. lt-ltb _ _ (e .marked u)))))
 
 -- The round in negotiation
@@ -159,7 +159,7 @@ lapsed-is r e = ap roundLapsed e ∙ lapsed-ok
 pub record Waits (n : Node) : Type 0 where
   pub version : n .version ≡ 0
   pub request : n .request ≡ 0
-  pub met : n .epoch .met ≡ 0
+  pub interactions : n .epoch .interactions ≡ 0
   pub updated : n .epoch .updated ≡ false
   pub round : n .round ≡ lapsed
 
@@ -168,7 +168,7 @@ unfolding waitingOk
 waits n h =
     let a = eqb (n .version) 0 in
     let b = eqb (n .request) 0 in
-    let c = eqb (n .epoch .met) 0 in
+    let c = eqb (n .epoch .interactions) 0 in
     let d = not (n .epoch .updated) in
     let e = roundLapsed (n .round) in
     let h1 : (a && b) ≡ true = and-left (a && b) ((c && d) && e) h in
@@ -177,7 +177,7 @@ waits n h =
     record {
       version = eqb-true _ _ (and-left a b h1);
       request = eqb-true _ _ (and-right a b h1);
-      met = eqb-true _ _ (and-left c d h3);
+      interactions = eqb-true _ _ (and-left c d h3);
       updated = not-true (n .epoch .updated) (and-right c d h3);
       round = lapses (n .round) (and-right (c && d) e h2);
     }
@@ -186,7 +186,7 @@ pub waited : (n : Node) → Waits n → waitingOk n ≡ true
 unfolding waitingOk
 waited n w =
     both (both (eq-eqb _ _ (w .version)) (eq-eqb _ _ (w .request)))
-    (both (both (eq-eqb _ _ (w .met)) (ap not (w .updated))) (lapsed-is (n .round) (w .round)))
+    (both (both (eq-eqb _ _ (w .interactions)) (ap not (w .updated))) (lapsed-is (n .round) (w .round)))
 
 -- All of a node
 
@@ -262,10 +262,10 @@ at-rest n r h = round-lapsed (n .phase) n h (r .phase)
 
 -- the counters, by the phase: in negotiation no C_e is above f, of a waiting node all are 0
 pub counts-negotiating : (n : Node) → Ranges n → negotiates (n .phase) ≡ true
-    → bounded (n .epoch .counts) (n .setup .config .nodes) (n .epoch .place) ≡ true
-counts-negotiating n r h = sym (ap (λ (p : Phase). bounded (n .epoch .counts) (n .setup .config .nodes) (closes p (n .epoch .place)))
-    (in-negotiation (n .phase) h)) ∙ r .epoch .counts
+    → bounded (n .epoch .counters) (n .setup .config .nodes) (n .epoch .place) ≡ true
+counts-negotiating n r h = sym (ap (λ (p : Phase). bounded (n .epoch .counters) (n .setup .config .nodes) (closesSeen p (n .epoch .place)))
+    (in-negotiation (n .phase) h)) ∙ r .epoch .counters
 
-pub counts-waiting : (n : Node) → Ranges n → isWaiting (n .phase) ≡ true → bounded (n .epoch .counts) (n .setup .config .nodes) 0 ≡ true
-counts-waiting n r h = sym (ap (λ (p : Phase). bounded (n .epoch .counts) (n .setup .config .nodes) (closes p (n .epoch .place)))
-    (in-waiting (n .phase) h)) ∙ r .epoch .counts
+pub counts-waiting : (n : Node) → Ranges n → isWaiting (n .phase) ≡ true → bounded (n .epoch .counters) (n .setup .config .nodes) 0 ≡ true
+counts-waiting n r h = sym (ap (λ (p : Phase). bounded (n .epoch .counters) (n .setup .config .nodes) (closesSeen p (n .epoch .place)))
+    (in-waiting (n .phase) h)) ∙ r .epoch .counters

@@ -33,23 +33,24 @@ unfoldable pub roundLapsed : Round → Bool
 roundLapsed r = (eqb (r .merged) 0 && eqb (r .heard) 0) && ((eqb (r .lowest) 0 && eqb (r .highest) 0) && same (r .known) noRequests)
 
 -- the closes of this epoch that a node has seen
-abbrev pub closes : Phase → ℕ → ℕ
-closes Waiting f = 0
-closes Negotiation f = f
-closes (Distribution sends) f = f + 1
+abbrev pub closesSeen : Phase → ℕ → ℕ
+closesSeen Waiting f = 0
+closesSeen Negotiation f = f
+closesSeen (Distribution sends) f = f + 1
 
 -- f is 0 to F - 1, no C_e above the closes, I_e among the N; a determined schedule only with `updated`, and that only at versions below the
 -- top
 unfoldable pub epochOk : Node → Bool
 epochOk n =
     ltb (n .epoch .place) (n .setup .config .rounds)
-    && ((bounded (n .epoch .counts) (n .setup .config .nodes) (closes (n .phase) (n .epoch .place))
-    && ltb (n .epoch .met) (2 ^ n .setup .config .nodes))
+    && ((bounded (n .epoch .counters) (n .setup .config .nodes) (closesSeen (n .phase) (n .epoch .place))
+    && ltb (n .epoch .interactions) (2 ^ n .setup .config .nodes))
     && (scheduleOk (n .epoch .determined) (n .epoch .updated) (n .setup) && (not (n .epoch .updated) || ltb (n .version) topVersion)))
 
 -- a waiting node holds its demand, flags and place alone
 unfoldable pub waitingOk : Node → Bool
-waitingOk n = (eqb (n .version) 0 && eqb (n .request) 0) && ((eqb (n .epoch .met) 0 && not (n .epoch .updated)) && roundLapsed (n .round))
+waitingOk n = (eqb (n .version) 0 && eqb (n .request) 0)
+    && ((eqb (n .epoch .interactions) 0 && not (n .epoch .updated)) && roundLapsed (n .round))
 
 -- by the phase
 abbrev pub phaseOk : Phase → Node → Bool

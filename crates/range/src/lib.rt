@@ -3,7 +3,7 @@ ghost use mathlib.Core.Path.{_≡_};
 ghost use mathlib.Core.Bool.{cond};
 ghost use Prim.Native.Nat.{_<_};
 ghost use Rattle.node.specs.Core.{bare};
-ghost use Rattle.range.specs.Range.{roundOk, roundLapsed, closes, epochOk, waitingOk, phaseOk, inRange};
+ghost use Rattle.range.specs.Range.{roundOk, roundLapsed, closesSeen, epochOk, waitingOk, phaseOk, inRange};
 use node::Core;
 use node::Phase;
 use node::Round;
@@ -44,7 +44,7 @@ fn round_lapsed(r: Round) -> bool
 // The closes of this epoch that a node has seen.
 fn closes_of(phase: Phase, place: u32) -> u32
     requires { ⌜ place < 4294967295 ⌝ }
-    ensures { λ r. ⌜ r ≡ closes phase place ⌝ }
+    ensures { λ r. ⌜ r ≡ closesSeen phase place ⌝ }
 {
     match phase {
         Phase::Waiting => 0,
@@ -58,14 +58,14 @@ fn epoch_ok(c: Core) -> bool
 {
     let s = c.setup;
     let phase = c.phase;
-    let counts = c.counts;
+    let counters = c.counters;
     if s.config.rounds <= c.place {
         return false;
     }
-    let counted = lists::all_fit(&counts, s.config.nodes, closes_of(phase, c.place));
-    let met = words::below(c.met, s.config.nodes);
+    let counted = lists::all_fit(&counters, s.config.nodes, closes_of(phase, c.place));
+    let interactions = words::below(c.interactions, s.config.nodes);
     let may = c.version < Core::TOP_VERSION;
-    (counted & met) & (!c.updated | may)
+    (counted & interactions) & (!c.updated | may)
 }
 
 fn waiting_ok(c: Core) -> bool
@@ -73,7 +73,7 @@ fn waiting_ok(c: Core) -> bool
 {
     let round = c.round;
     let numbers = (c.version == 0) & (c.request == 0);
-    let marks = (c.met == 0) & !c.updated;
+    let marks = (c.interactions == 0) & !c.updated;
     numbers & (marks & round_lapsed(round))
 }
 

@@ -16,11 +16,11 @@ use Rattle.node.specs.Figures.{configOk}
 use Rattle.node.specs.declared.Config.{Config}
 use Rattle.site.specs.declared.Table.{Table}
 use Rattle.script.specs.lines.Lines.{onLine}
-use Rattle.script.specs.load.Opening.{settingsNames, tableNames, eventNames, Reading, refused, got, namesLine, configIn, settingsLine}
+use Rattle.script.specs.load.Opening.{settingsNames, tableNames, eventNames, Reading, refused, got, namesLine, configOfFive, settingsLine}
 use Rattle.script.specs.load.Opening.{rowIn}
-use Rattle.script.specs.load.Opening.{rowGood, stored, emptyTable, tableLines, then, opening}
+use Rattle.script.specs.load.Opening.{rowGood, rowStored, emptyTable, tableLines, then, opening}
 use Rattle.script.proofs.lines.Lines.{on-cut}
-use Rattle.reduce.specs.Reduced.{TextLine, linesIn, joined}
+use Rattle.reduce.specs.Reduced.{TextLine, linesIn, joinedLines}
 use Rattle.reduce.proofs.Heads.{Got, some-append, Headed, Heads, names-head, settings-head, table-head}
 use Rattle.reduce.proofs.ReadAgain.{AllClean, split-clean, split-ended, split-open}
 
@@ -57,16 +57,16 @@ take-none : (k : ℕ) → _≡_ {A = List TextLine} (take k []) []
 take-none zero = refl
 take-none (suc k) = refl
 
-split-first : (k : ℕ) (ps : List (List ℕ)) → AllClean ps → Some ps → split 10 (joined (take k (linesIn ps))) ≡ cut k ps
-unfolding cut linesIn joined split
+split-first : (k : ℕ) (ps : List (List ℕ)) → AllClean ps → Some ps → split 10 (joinedLines (take k (linesIn ps))) ≡ cut k ps
+unfolding cut linesIn joinedLines split
 split-first zero ps c h = refl
 split-first (suc k) [] c h = absurd h
 split-first (suc k) ([] ∷ []) c h = refl
 split-first (suc k) ((b ∷ l) ∷ []) c h =
-    ap (λ (ls : List TextLine). split 10 ((b ∷ l) ++ joined ls)) (take-none k) ∙ ap (split 10) (append-nil (b ∷ l))
+    ap (λ (ls : List TextLine). split 10 ((b ∷ l) ++ joinedLines ls)) (take-none k) ∙ ap (split 10) (append-nil (b ∷ l))
     ∙ split-open (b ∷ l) (c .0)
 split-first (suc k) (l ∷ m ∷ ls) c h =
-    split-ended l (joined (take k (linesIn (m ∷ ls)))) (c .0) ∙ ap (λ (r : List (List ℕ)). l ∷ r) (split-first k (m ∷ ls) (c .1) tt)
+    split-ended l (joinedLines (take k (linesIn (m ∷ ls)))) (c .0) ∙ ap (λ (r : List (List ℕ)). l ∷ r) (split-first k (m ∷ ls) (c .1) tt)
 
 -- what holds of a refusal
 abbrev Bad : {A : Type 0} → (ℕ → Answer → Type 0) → Reading A → Type 0
@@ -144,16 +144,16 @@ names-refuse n names x = line-refuses n BadNames BadNames BadNames (λ l. same l
 settings-refuse : (n : ℕ) → Refuses (settingsLine n) n
 unfolding settingsLine
 settings-refuse n =
-    line-refuses n BadNames OutOfRange OutOfRange (λ l. configOk (configIn (fiveOf (split 32 l))))
-    (λ l ls. got (configIn (fiveOf (split 32 l))) ls) (λ l ps s. tt)
+    line-refuses n BadNames OutOfRange OutOfRange (λ l. configOk (configOfFive (fiveOf (split 32 l))))
+    (λ l ls. got (configOfFive (fiveOf (split 32 l))) ls) (λ l ps s. tt)
 
 table-refuse : (f : Config) (left i n : ℕ) (t : Table) → Refuses (tableLines f left i n t) n
 unfolding tableLines
 table-refuse f zero i n t = λ ps s. tt
 table-refuse f (suc left) i n t =
     line-refuses n BadNames OutOfRange OutOfRange (λ l. rowGood f i (fourOf (split 32 l)))
-    (λ l ls. tableLines f left (i + 1) (n + 1) (stored t i (rowIn (fourOf (split 32 l)))) ls)
-    (λ l. table-refuse f left (i + 1) (n + 1) (stored t i (rowIn (fourOf (split 32 l)))))
+    (λ l ls. tableLines f left (i + 1) (n + 1) (rowStored t i (rowIn (fourOf (split 32 l)))) ls)
+    (λ l. table-refuse f left (i + 1) (n + 1) (rowStored t i (rowIn (fourOf (split 32 l)))))
 
 -- the lines before the events
 opening-refuses : Refuses opening 1
@@ -186,7 +186,7 @@ opening-refuses =
     (λ t. names-refuse (4 + f .nodes) eventNames (record { config = f; table = t })))))
 
 pub refused-again : (s : List ℕ) (n : ℕ) (x : Answer) → opening (split 10 s) ≡ refused n x
-    → opening (split 10 (joined (take n (linesIn (split 10 s))))) ≡ refused n x
+    → opening (split 10 (joinedLines (take n (linesIn (split 10 s))))) ≡ refused n x
 refused-again s n x e =
     let q = subst (Bad (CutAt opening 1 (split 10 s))) e (opening-refuses (split 10 s) (split-some 10 s)) in
     let z : n ≡ suc (n - 1) = omega (arith, q .0) in

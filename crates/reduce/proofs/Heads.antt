@@ -15,9 +15,9 @@ use Rattle.node.specs.Figures.{configOk}
 use Rattle.node.specs.declared.Config.{Config}
 use Rattle.site.specs.declared.Table.{Table}
 use Rattle.script.specs.lines.Lines.{onLine}
-use Rattle.script.specs.load.Opening.{settingsNames, tableNames, eventNames, Reading, refused, got, namesLine, configIn, settingsLine}
+use Rattle.script.specs.load.Opening.{settingsNames, tableNames, eventNames, Reading, refused, got, namesLine, configOfFive, settingsLine}
 use Rattle.script.specs.load.Opening.{rowIn}
-use Rattle.script.specs.load.Opening.{rowGood, stored, emptyTable, tableLines, then, opening}
+use Rattle.script.specs.load.Opening.{rowGood, rowStored, emptyTable, tableLines, then, opening}
 use Rattle.script.proofs.lines.Lines.{on-cut}
 
 -- what holds of a value that was read and the lines behind it
@@ -91,17 +91,17 @@ names-head n names x = line-heads n BadNames BadNames BadNames (λ l. same l nam
 pub settings-head : (n : ℕ) → Heads (settingsLine n) 1
 unfolding settingsLine
 settings-head n =
-    line-heads n BadNames OutOfRange OutOfRange (λ l. configOk (configIn (fiveOf (split 32 l))))
-    (λ l ls. got (configIn (fiveOf (split 32 l))) ls) 0
-    (λ l. got-heads (configIn (fiveOf (split 32 l))))
+    line-heads n BadNames OutOfRange OutOfRange (λ l. configOk (configOfFive (fiveOf (split 32 l))))
+    (λ l ls. got (configOfFive (fiveOf (split 32 l))) ls) 0
+    (λ l. got-heads (configOfFive (fiveOf (split 32 l))))
 
 pub table-head : (f : Config) (left i n : ℕ) (t : Table) → Heads (tableLines f left i n t) left
 unfolding tableLines
 table-head f zero i n t = got-heads t
 table-head f (suc left) i n t =
     line-heads n BadNames OutOfRange OutOfRange (λ l. rowGood f i (fourOf (split 32 l)))
-    (λ l ls. tableLines f left (i + 1) (n + 1) (stored t i (rowIn (fourOf (split 32 l)))) ls) left
-    (λ l. table-head f left (i + 1) (n + 1) (stored t i (rowIn (fourOf (split 32 l)))))
+    (λ l ls. tableLines f left (i + 1) (n + 1) (rowStored t i (rowIn (fourOf (split 32 l)))) ls) left
+    (λ l. table-head f left (i + 1) (n + 1) (rowStored t i (rowIn (fourOf (split 32 l)))))
 
 -- a reading has read some lines
 pub record Read {A : Type 0} (f : List (List ℕ) → Reading A) (ps : List (List ℕ)) (x : A) (ls : List (List ℕ)) : Type 0 where

@@ -11,15 +11,15 @@ use lib.Dec.{eqb}
 use lib.ListN.{length, drop, length-append}
 use Rattle.text.specs.Read.{split}
 use Rattle.node.specs.declared.Answer.the-variants.{OutOfRange}
-use Rattle.machine.specs.hours.Calls.{TimedWorld}
+use Rattle.machine.specs.hours.Calls.{TimedState}
 use Rattle.site.specs.Model.{Site}
 use Rattle.script.specs.events.Events.{eventOf}
 use Rattle.script.specs.lines.Lines.{lineAt}
 use Rattle.script.specs.declared.Line.the-variants.{Nothing, Open}
 use Rattle.script.proofs.lines.Lines.{Whole}
-use Rattle.reduce.specs.Reduced.{TextLine, ended, unended, linesIn, joined, isRefusal, gives, LeftOut, without}
-use Rattle.reduce.specs.Inner.{Placed, placed, inFront, keep, lineRun, lineGives, steppedBy}
-use Rattle.reduce.specs.declared.Stepped.{Stepped}
+use Rattle.reduce.specs.Reduced.{TextLine, ended, unended, linesIn, joinedLines, isRefusal, gives, LeftOut, without}
+use Rattle.reduce.specs.Inner.{Placed, placedLines, inFront, keep, lineRun, lineGives, trialStepBy}
+use Rattle.reduce.specs.declared.TrialStep.{TrialStep}
 use Rattle.reduce.proofs.Lines.{placed-none, placed-open, lineText, placed-line}
 
 -- kept by the same test
@@ -29,7 +29,7 @@ keep-same p q [] h = refl
 keep-same p q (x ∷ xs) h = ap₂ (λ (t : Bool) (r : List TextLine). inFront t (x .line) r) (h (x .at)) (keep-same p q xs h)
 
 -- a line that may be left out, in front of others
-gives-front : (t : Bool) (a : ℕ) (w : TimedWorld) (l : TextLine) (ls : List TextLine)
+gives-front : (t : Bool) (a : ℕ) (w : TimedState) (l : TextLine) (ls : List TextLine)
     → gives a w (inFront t l ls) ≡ (lineGives t a w (l .says) || gives a (lineRun t w (l .says)) ls)
 unfolding gives
 gives-front true a w l ls = refl
@@ -41,10 +41,10 @@ or-false false = refl
 
 -- the kept lines from a place on
 module _ (s : List ℕ) (a : ℕ) (p : ℕ → Bool) where
-  abbrev pub givesBy : ℕ → TimedWorld → Bool
-  givesBy at w = gives a w (keep p (placed at (split 10 (drop at s))))
+  abbrev pub givesBy : ℕ → TimedState → Bool
+  givesBy at w = gives a w (keep p (placedLines at (split 10 (drop at s))))
 
-  module _ (at : ℕ) (w : TimedWorld) where
+  module _ (at : ℕ) (w : TimedState) where
     pub gives-none : lineAt s at ≡ Nothing → givesBy at w ≡ false
     unfolding gives keep
     gives-none h = ap (λ (xs : List Placed). gives a w (keep p xs)) (placed-none s at h)
@@ -62,20 +62,20 @@ module _ (s : List ℕ) (a : ℕ) (p : ℕ → Bool) where
       unfolding keep
       gives-line =
           ap (λ (xs : List Placed). gives a w (keep p xs)) (placed-line s at h)
-          ∙ gives-front (p at) a w (ended (lineText s at h)) (keep p (placed (e + 1) (split 10 (drop (e + 1) s))))
+          ∙ gives-front (p at) a w (ended (lineText s at h)) (keep p (placedLines (e + 1) (split 10 (drop (e + 1) s))))
 
       -- what a step of the line came to, and the site and the area that it left
-      module _ (r : Stepped) (x : Site) (y : List ℕ) (k : r ≡ steppedBy (p at) a w (eventOf (lineText s at h)))
+      module _ (r : TrialStep) (x : Site) (y : List ℕ) (k : r ≡ trialStepBy (p at) a w (eventOf (lineText s at h)))
           (j : x ≡ lineRun (p at) w (eventOf (lineText s at h)) .timed .site)
           (m : y ≡ lineRun (p at) w (eventOf (lineText s at h)) .area) where
-        abbrev pub reached : TimedWorld
+        abbrev pub reached : TimedState
         reached = record { timed = record { site = x; day = r .day }; area = y }
 
         reached-is : lineRun (p at) w (eventOf (lineText s at h)) ≡ reached
         reached-is = λ i. record { timed = record { site = sym j i; day = sym k i .day }; area = sym m i }
 
         pub split-step : givesBy at w ≡ (r .gave || givesBy (e + 1) reached)
-        split-step = gives-line ∙ ap₂ (λ (t : Stepped) (v : TimedWorld). t .gave || givesBy (e + 1) v) (sym k) reached-is
+        split-step = gives-line ∙ ap₂ (λ (t : TrialStep) (v : TimedState). t .gave || givesBy (e + 1) v) (sym k) reached-is
 
         pub gives-hit : r .gave ≡ true → givesBy at w ≡ true
         gives-hit g = split-step ∙ ap (λ (t : Bool). t || givesBy (e + 1) reached) g
@@ -177,13 +177,13 @@ nth p lo hi (x ∷ xs) r i h = go (p (x .at)) i refl h (λ j k. nth p (suc (x .a
     go false i e h f = deeper p lo hi x xs false i i (r .0) e refl (f i h)
 
 -- places of lines rise, and none is behind the last byte
-pub places-rise : (at : ℕ) (ps : List (List ℕ)) → Rising at (at + length (joined (linesIn ps))) (placed at ps)
-unfolding placed linesIn joined
+pub places-rise : (at : ℕ) (ps : List (List ℕ)) → Rising at (at + length (joinedLines (linesIn ps))) (placedLines at ps)
+unfolding placedLines linesIn joinedLines
 places-rise at [] = tt
 places-rise at ([] ∷ []) = tt
 places-rise at ((b ∷ l) ∷ []) = (omega arith, (omega arith, tt))
 places-rise at (l ∷ m ∷ ls) =
-    let r = joined (linesIn (m ∷ ls)) in
+    let r = joinedLines (linesIn (m ∷ ls)) in
     let k : length ((l ++ (10 ∷ [])) ++ r) ≡ length l + 1 + length r = length-append (l ++ (10 ∷ [])) r
     ∙ ap (λ (n : ℕ). n + length r) (length-append l (10 ∷ [])) in
     let z : at + length l + 1 + length r ≡ at + length ((l ++ (10 ∷ [])) ++ r) = omega (arith, k) in
@@ -192,6 +192,6 @@ places-rise at (l ∷ m ∷ ls) =
       (
         omega (arith, k),
         lower (suc at) (at + length l + 1) (at + length ((l ++ (10 ∷ [])) ++ r))
-            (placed (at + length l + 1) (m ∷ ls)) (omega arith) (rw z at q),
+            (placedLines (at + length l + 1) (m ∷ ls)) (omega arith) (rw z at q),
       ),
     )

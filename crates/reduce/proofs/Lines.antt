@@ -14,37 +14,37 @@ use Rattle.text.proofs.Pieces.{Some, split-some}
 use Rattle.script.specs.lines.Lines.{lineAt}
 use Rattle.script.specs.declared.Line.the-variants.{Nothing, Open}
 use Rattle.script.proofs.lines.Lines.{Whole, none-is, open-is}
-use Rattle.reduce.specs.Reduced.{TextLine, ended, unended, linesIn, joined}
-use Rattle.reduce.specs.Inner.{placed, keep}
+use Rattle.reduce.specs.Reduced.{TextLine, ended, unended, linesIn, joinedLines}
+use Rattle.reduce.specs.Inner.{placedLines, keep}
 
 -- the first byte of the pieces, and a byte 10 in front of them
-joined-front : (b : ℕ) (ps : List (List ℕ)) → Some ps → joined (linesIn (front b ps)) ≡ b ∷ joined (linesIn ps)
-unfolding joined linesIn front
+joined-front : (b : ℕ) (ps : List (List ℕ)) → Some ps → joinedLines (linesIn (front b ps)) ≡ b ∷ joinedLines (linesIn ps)
+unfolding joinedLines linesIn front
 joined-front b [] h = absurd h
 joined-front b ([] ∷ []) h = refl
 joined-front b ((x ∷ p) ∷ []) h = refl
 joined-front b (p ∷ q ∷ r) h = refl
 
-joined-first : (ps : List (List ℕ)) → Some ps → joined (linesIn ([] ∷ ps)) ≡ 10 ∷ joined (linesIn ps)
-unfolding joined linesIn
+joined-first : (ps : List (List ℕ)) → Some ps → joinedLines (linesIn ([] ∷ ps)) ≡ 10 ∷ joinedLines (linesIn ps)
+unfolding joinedLines linesIn
 joined-first [] h = absurd h
 joined-first (p ∷ ps) h = refl
 
 -- the lines one behind another are the text
-pub joined-lines : (s : List ℕ) → joined (linesIn (split 10 s)) ≡ s
-unfolding joined linesIn split
+pub joined-lines : (s : List ℕ) → joinedLines (linesIn (split 10 s)) ≡ s
+unfolding joinedLines linesIn split
 joined-lines [] = refl
 joined-lines (b ∷ s) = go (eqb b 10) refl (joined-lines s)
   where
-    go : (t : Bool) → eqb b 10 ≡ t → joined (linesIn (split 10 s)) ≡ s
-        → joined (linesIn (cond t ([] ∷ split 10 s) (front b (split 10 s)))) ≡ b ∷ s
+    go : (t : Bool) → eqb b 10 ≡ t → joinedLines (linesIn (split 10 s)) ≡ s
+        → joinedLines (linesIn (cond t ([] ∷ split 10 s) (front b (split 10 s)))) ≡ b ∷ s
     go true h e = joined-first (split 10 s) (split-some 10 s) ∙ ap₂ (λ (x : ℕ) (r : List ℕ). x ∷ r) (sym (eqb-true b 10 h)) e
     go false h e = joined-front b (split 10 s) (split-some 10 s) ∙ ap (λ (r : List ℕ). b ∷ r) e
 
 -- a piece with others behind it
 placed-cut : (at : ℕ) (l : List ℕ) (ps : List (List ℕ)) → Some ps
-    → placed at (l ∷ ps) ≡ record { at = at; line = ended l } ∷ placed (at + length l + 1) ps
-unfolding placed
+    → placedLines at (l ∷ ps) ≡ record { at = at; line = ended l } ∷ placedLines (at + length l + 1) ps
+unfolding placedLines
 placed-cut at l [] h = absurd h
 placed-cut at l (p ∷ ps) h = refl
 
@@ -54,9 +54,9 @@ lines-cut l [] h = absurd h
 lines-cut l (p ∷ ps) h = refl
 
 module _ (s : List ℕ) (at : ℕ) where
-  pub placed-none : lineAt s at ≡ Nothing → placed at (split 10 (drop at s)) ≡ []
-  unfolding placed
-  placed-none h = ap (placed at) (none-is s at h)
+  pub placed-none : lineAt s at ≡ Nothing → placedLines at (split 10 (drop at s)) ≡ []
+  unfolding placedLines
+  placed-none h = ap (placedLines at) (none-is s at h)
 
   pub lines-none : lineAt s at ≡ Nothing → linesIn (split 10 (drop at s)) ≡ []
   unfolding linesIn
@@ -65,11 +65,11 @@ module _ (s : List ℕ) (at : ℕ) where
   module _ (h : lineAt s at ≡ Open) where
     -- the bytes without a byte 10 behind them are all that is left
     open-text : open-is s at h .first ∷ open-is s at h .rest ≡ drop at s
-    unfolding linesIn joined
+    unfolding linesIn joinedLines
     open-text =
         let u = open-is s at h in
         let l = u .first ∷ u .rest in
-        sym (append-nil l) ∙ sym (ap (λ (ps : List (List ℕ)). joined (linesIn ps)) (u .piece)) ∙ joined-lines (drop at s)
+        sym (append-nil l) ∙ sym (ap (λ (ps : List (List ℕ)). joinedLines (linesIn ps)) (u .piece)) ∙ joined-lines (drop at s)
 
     pub open-within : at < length s
     open-within = omega (arith, ap length open-text, length-drop at s)
@@ -78,9 +78,9 @@ module _ (s : List ℕ) (at : ℕ) where
     unfolding linesIn
     lines-open = ap linesIn (open-is s at h .piece) ∙ ap (λ (x : List ℕ). unended x ∷ []) open-text
 
-    pub placed-open : placed at (split 10 (drop at s)) ≡ record { at = at; line = unended (drop at s) } ∷ []
-    unfolding placed
-    placed-open = ap (placed at) (open-is s at h .piece) ∙ ap (λ (x : List ℕ). record { at = at; line = unended x } ∷ []) open-text
+    pub placed-open : placedLines at (split 10 (drop at s)) ≡ record { at = at; line = unended (drop at s) } ∷ []
+    unfolding placedLines
+    placed-open = ap (placedLines at) (open-is s at h .piece) ∙ ap (λ (x : List ℕ). record { at = at; line = unended x } ∷ []) open-text
 
   module _ {e : ℕ} (h : Whole s at e) where
     -- the line's bytes without the byte 10
@@ -90,20 +90,20 @@ module _ (s : List ℕ) (at : ℕ) where
     pub length-line : length lineText ≡ e - at
     length-line = length-take-le (e - at) (drop at s) (omega (arith, length-drop at s, h .from, h .within))
 
-    pub placed-line : placed at (split 10 (drop at s)) ≡ record { at = at; line = ended lineText } ∷ placed (e + 1)
+    pub placed-line : placedLines at (split 10 (drop at s)) ≡ record { at = at; line = ended lineText } ∷ placedLines (e + 1)
         (split 10 (drop (e + 1) s))
     placed-line =
         let z : at + length lineText + 1 ≡ e + 1 = omega (arith, length-line, h .from) in
-        ap (placed at) (h .piece)
+        ap (placedLines at) (h .piece)
         ∙ placed-cut at lineText (split 10 (drop (e + 1) s)) (split-some 10 (drop (e + 1) s))
-        ∙ ap (λ (i : ℕ). record { at = at; line = ended lineText } ∷ placed i (split 10 (drop (e + 1) s))) z
+        ∙ ap (λ (i : ℕ). record { at = at; line = ended lineText } ∷ placedLines i (split 10 (drop (e + 1) s))) z
 
     pub lines-line : linesIn (split 10 (drop at s)) ≡ ended lineText ∷ linesIn (split 10 (drop (e + 1) s))
     lines-line = ap linesIn (h .piece) ∙ lines-cut lineText (split 10 (drop (e + 1) s)) (split-some 10 (drop (e + 1) s))
 
 -- the lines without their places
-pub all-lines : (at : ℕ) (ps : List (List ℕ)) → keep (λ i. true) (placed at ps) ≡ linesIn ps
-unfolding keep placed linesIn
+pub all-lines : (at : ℕ) (ps : List (List ℕ)) → keep (λ i. true) (placedLines at ps) ≡ linesIn ps
+unfolding keep placedLines linesIn
 all-lines at [] = refl
 all-lines at ([] ∷ []) = refl
 all-lines at ((b ∷ l) ∷ []) = refl

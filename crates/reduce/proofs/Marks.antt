@@ -15,12 +15,12 @@ use Rattle.lists.proofs.Laws.{iter-more, iter-end}
 use Rattle.text.specs.Read.{split}
 use Rattle.script.specs.lines.Lines.{lineAt}
 use Rattle.script.specs.declared.Line.the-variants.{Nothing, Open}
-use Rattle.script.specs.declared.Opened.{Opened}
+use Rattle.script.specs.declared.ScriptHead.{ScriptHead}
 use Rattle.script.proofs.lines.Lines.{Whole}
 use Rattle.desk.specs.listings.Inner.{openingOf, linesOf}
 use Rattle.reduce.specs.Reduced.{TextLine, gives}
-use Rattle.reduce.specs.Calls.{startOf}
-use Rattle.reduce.specs.Inner.{Placed, placed, inFront, keep, isKept, givesKept, cleared, marked, Lean, Scanned}
+use Rattle.reduce.specs.Calls.{startState}
+use Rattle.reduce.specs.Inner.{Placed, placedLines, inFront, keep, isKept, givesKept, marksCleared, markedCount, Lean, Scanned}
 use Rattle.reduce.proofs.Lines.{placed-none, placed-open, placed-line}
 use Rattle.reduce.proofs.Kept.{keep-same, except, except-same, except-other}
 
@@ -65,10 +65,10 @@ module _ (ms : List ℕ) (lo hi : ℕ) where
   abbrev within : ℕ → Bool
   within i = leb lo i && ltb i hi
 
-  pub cleared-in : (i : ℕ) → lo ≤ i → i < hi → getD (cleared ms lo hi) i 0 ≡ 0
+  pub cleared-in : (i : ℕ) → lo ≤ i → i < hi → getD (marksCleared ms lo hi) i 0 ≡ 0
   cleared-in i h k = turn-in ms lo (hi - lo) i h (omega arith)
 
-  pub cleared-out : (i : ℕ) → (lo ≤ i → i < hi → ⊥) → getD (cleared ms lo hi) i 0 ≡ getD ms i 0
+  pub cleared-out : (i : ℕ) → (lo ≤ i → i < hi → ⊥) → getD (marksCleared ms lo hi) i 0 ≡ getD ms i 0
   cleared-out i h = turn-out ms lo (hi - lo) i (λ a b. h a (omega (arith, a, b)))
 
   -- nothing is left out of no places
@@ -92,22 +92,22 @@ module _ (ms : List ℕ) (lo hi : ℕ) where
       go false u x y = ap₂ (λ (v z : Bool). not (v && z) && eqb (getD ms i 0) 1) x y
 
   -- what is kept with cleared marks is what is kept without the range
-  pub cleared-kept : (i : ℕ) → isKept (cleared ms lo hi) 0 0 i ≡ isKept ms lo hi i
-  cleared-kept i = ap (λ (t : Bool). t && eqb (getD (cleared ms lo hi) i 0) 1) (none-out i) ∙ go (leb lo i) (ltb i hi) refl refl
+  pub cleared-kept : (i : ℕ) → isKept (marksCleared ms lo hi) 0 0 i ≡ isKept ms lo hi i
+  cleared-kept i = ap (λ (t : Bool). t && eqb (getD (marksCleared ms lo hi) i 0) 1) (none-out i) ∙ go (leb lo i) (ltb i hi) refl refl
     where
-      out : (lo ≤ i → i < hi → ⊥) → eqb (getD (cleared ms lo hi) i 0) 1 ≡ isKept ms lo hi i
+      out : (lo ≤ i → i < hi → ⊥) → eqb (getD (marksCleared ms lo hi) i 0) 1 ≡ isKept ms lo hi i
       out h = ap (λ (x : ℕ). eqb x 1) (cleared-out i h) ∙ sym (kept-out i h)
 
-      go : (t u : Bool) → leb lo i ≡ t → ltb i hi ≡ u → eqb (getD (cleared ms lo hi) i 0) 1 ≡ isKept ms lo hi i
+      go : (t u : Bool) → leb lo i ≡ t → ltb i hi ≡ u → eqb (getD (marksCleared ms lo hi) i 0) 1 ≡ isKept ms lo hi i
       go true true h k = ap (λ (x : ℕ). eqb x 1) (cleared-in i (leb-true lo i h) (ltb-true i hi k))
           ∙ sym (kept-in i (leb-true lo i h) (ltb-true i hi k))
       go true false h k = out (λ a b. absurd (omega (arith, b, ltb-false i hi k)))
       go false u h k = out (λ a b. absurd (omega (arith, a, leb-false lo i h)))
 
-  pub cleared-gives : (a : ℕ) (s : List ℕ) (o : Opened) → givesKept a s o (cleared ms lo hi) 0 0 ≡ givesKept a s o ms lo hi
+  pub cleared-gives : (a : ℕ) (s : List ℕ) (o : ScriptHead) → givesKept a s o (marksCleared ms lo hi) 0 0 ≡ givesKept a s o ms lo hi
   cleared-gives a s o =
-      ap (λ (ls : List TextLine). gives a (startOf (openingOf o)) ls)
-      (keep-same (isKept (cleared ms lo hi) 0 0) (isKept ms lo hi) (placed (o .at) (linesOf s o)) cleared-kept)
+      ap (λ (ls : List TextLine). gives a (startState (openingOf o)) ls)
+      (keep-same (isKept (marksCleared ms lo hi) 0 0) (isKept ms lo hi) (placedLines (o .at) (linesOf s o)) cleared-kept)
 
 -- what is kept without a single place
 pub except-kept : (ms : List ℕ) (q i : ℕ) → except (isKept ms 0 0) q i ≡ isKept ms q (q + 1) i
@@ -127,14 +127,14 @@ digit-le true false h = never (sym (h refl))
 digit-le false true h = omega arith
 digit-le false false h = omega arith
 
-marked-le : (n : ℕ) (ms ns : List ℕ) → ((i : ℕ) → one ns i ≡ true → one ms i ≡ true) → marked n ns ≤ marked n ms
-unfolding marked
+marked-le : (n : ℕ) (ms ns : List ℕ) → ((i : ℕ) → one ns i ≡ true → one ms i ≡ true) → markedCount n ns ≤ markedCount n ms
+unfolding markedCount
 marked-le zero ms ns h = omega arith
 marked-le (suc n) ms ns h = omega (arith, marked-le n ms ns h, digit-le (one ns n) (one ms n) (h n))
 
 marked-less : (n : ℕ) (ms ns : List ℕ) (q : ℕ) → ((i : ℕ) → one ns i ≡ true → one ms i ≡ true) → q < n → one ms q ≡ true
-    → one ns q ≡ false → marked n ns < marked n ms
-unfolding marked
+    → one ns q ≡ false → markedCount n ns < markedCount n ms
+unfolding markedCount
 marked-less zero ms ns q h l a b = absurd (omega arith)
 marked-less (suc n) ms ns q h l a b =
     same-or-not q n
@@ -145,29 +145,29 @@ marked-less (suc n) ms ns q h l a b =
     (λ e. omega (arith, marked-less n ms ns q h (omega (arith, e)) a b, digit-le (one ns n) (one ms n) (h n)))
 
 -- a mark that is cleared
-pub cleared-fewer : (n : ℕ) (ms : List ℕ) (q : ℕ) → q < n → one ms q ≡ true → marked n (cleared ms q (q + 1)) < marked n ms
-cleared-fewer n ms q l a = marked-less n ms (cleared ms q (q + 1)) q still l a
+pub cleared-fewer : (n : ℕ) (ms : List ℕ) (q : ℕ) → q < n → one ms q ≡ true → markedCount n (marksCleared ms q (q + 1)) < markedCount n ms
+cleared-fewer n ms q l a = marked-less n ms (marksCleared ms q (q + 1)) q still l a
     (ap (λ (x : ℕ). eqb x 1) (cleared-in ms q (q + 1) q (omega arith) (omega arith)))
   where
-    still : (i : ℕ) → one (cleared ms q (q + 1)) i ≡ true → one ms i ≡ true
+    still : (i : ℕ) → one (marksCleared ms q (q + 1)) i ≡ true → one ms i ≡ true
     still i h =
         same-or-not i q (λ e. ap (one ms) e ∙ a)
         (λ e. sym (ap (λ (x : ℕ). eqb x 1) (cleared-out ms q (q + 1) i (λ x y. absurd (omega (arith, x, y, e))))) ∙ h)
 
 -- a scan up to a place
-pub record ScanTo (a : ℕ) (s : List ℕ) (o : Opened) (before after : List ℕ) (cut : Bool) (at : ℕ) : Type 0 where
+pub record ScanTo (a : ℕ) (s : List ℕ) (o : ScriptHead) (before after : List ℕ) (cut : Bool) (at : ℕ) : Type 0 where
   pub given : givesKept a s o after 0 0 ≡ true
   pub lean : cut ≡ false → Lean a s o after at
-  pub most : marked (length s) after ≤ marked (length s) before
-  pub fewer : cut ≡ true → marked (length s) after < marked (length s) before
+  pub most : markedCount (length s) after ≤ markedCount (length s) before
+  pub fewer : cut ≡ true → markedCount (length s) after < markedCount (length s) before
 
-module _ (a : ℕ) (s : List ℕ) (o : Opened) (before : List ℕ) where
+module _ (a : ℕ) (s : List ℕ) (o : ScriptHead) (before : List ℕ) where
   pub scan-start : givesKept a s o before 0 0 ≡ true → ScanTo a s o before before false (o .at)
   scan-start g = record { given = g; lean = λ e q x y k. absurd (omega (arith, x, y)); most = omega arith; fewer = λ e. never (sym e) }
 
   -- one place more: its mark is cleared, or it is left as it is
   module _ (ms : List ℕ) (cut : Bool) (at : ℕ) (l : at < length s) (q : ScanTo a s o before ms cut at) where
-    scan-cut : (one ms at && givesKept a s o ms at (at + 1)) ≡ true → ScanTo a s o before (cleared ms at (at + 1)) true (at + 1)
+    scan-cut : (one ms at && givesKept a s o ms at (at + 1)) ≡ true → ScanTo a s o before (marksCleared ms at (at + 1)) true (at + 1)
     scan-cut h =
         let f = cleared-fewer (length s) ms at l (and-left (one ms at) (givesKept a s o ms at (at + 1)) h) in
         record {
@@ -192,7 +192,7 @@ module _ (a : ℕ) (s : List ℕ) (o : Opened) (before : List ℕ) where
         }
 
   pub scan-next : (ms ns : List ℕ) (cut r : Bool) (at : ℕ) → at < length s → ScanTo a s o before ms cut at
-      → r ≡ (one ms at && givesKept a s o ms at (at + 1)) → ns ≡ cond r (cleared ms at (at + 1)) ms
+      → r ≡ (one ms at && givesKept a s o ms at (at + 1)) → ns ≡ cond r (marksCleared ms at (at + 1)) ms
       → ScanTo a s o before ns (cut || r) (at + 1)
   scan-next ms ns true true at l q e k = subst (λ (m : List ℕ). ScanTo a s o before m true (at + 1)) (sym k)
       (scan-cut ms true at l q (sym e))
@@ -208,8 +208,8 @@ module _ (a : ℕ) (s : List ℕ) (o : Opened) (before : List ℕ) where
   scan-end ms cut at h q = record { given = q .given; lean = λ e i x y k. q .lean e i x (omega (arith, y, h)) k; fewer = q .fewer }
 
 -- what is cleared if the number is given without it leaves it given
-pub still-gives : (a : ℕ) (s : List ℕ) (o : Opened) (ms ns : List ℕ) (lo hi : ℕ) (r : Bool) → givesKept a s o ms 0 0 ≡ true
-    → r ≡ givesKept a s o ms lo hi → ns ≡ cond r (cleared ms lo hi) ms
+pub still-gives : (a : ℕ) (s : List ℕ) (o : ScriptHead) (ms ns : List ℕ) (lo hi : ℕ) (r : Bool) → givesKept a s o ms 0 0 ≡ true
+    → r ≡ givesKept a s o ms lo hi → ns ≡ cond r (marksCleared ms lo hi) ms
     → givesKept a s o ns 0 0 ≡ true
 still-gives a s o ms ns lo hi true g e k = ap (λ (m : List ℕ). givesKept a s o m 0 0) k ∙ cleared-gives ms lo hi a s o ∙ sym e
 still-gives a s o ms ns lo hi false g e k = ap (λ (m : List ℕ). givesKept a s o m 0 0) k ∙ g
@@ -228,7 +228,7 @@ all-kept ms (x ∷ xs) h =
 -- the lines before a place are marked: all are, once those from it on are, and no mark before it changes
 module _ (s : List ℕ) (from : ℕ) where
   abbrev linesAt : ℕ → List Placed
-  linesAt at = placed at (split 10 (drop at s))
+  linesAt at = placedLines at (split 10 (drop at s))
 
   pub record MarkedTo (ms : List ℕ) (at : ℕ) : Type 0 where
     pub then : (ns : List ℕ) → ((i : ℕ) → i < at → getD ns i 0 ≡ getD ms i 0) → AllOne ns (linesAt at) → AllOne ns (linesAt from)

@@ -16,14 +16,14 @@ use Rattle.text.specs.Read.{split}
 use Rattle.node.specs.Answers.{isDone, number}
 use Rattle.node.specs.declared.Answer.the-variants.{Done, NoRoom, NotGiven}
 use Rattle.node.proofs.Answers.{done-is}
-use Rattle.script.specs.load.Opening.{Reading, refused, got, Opening, opening, placeOf, configRead, openedOf}
-use Rattle.script.specs.declared.Opened.{Opened}
+use Rattle.script.specs.load.Opening.{Reading, refused, got, Opening, opening, linesStart, configRead, scriptHeadOf}
+use Rattle.script.specs.declared.ScriptHead.{ScriptHead}
 use Rattle.script.proofs.load.Outcome.{opening-loads}
 use Rattle.desk.specs.listings.Output.{topScript}
 use Rattle.desk.specs.listings.Inner.{openingOf, linesOf}
-use Rattle.reduce.specs.Reduced.{TextLine, linesIn, joined, isRefusal, gives, LeftOut, Reduced}
-use Rattle.reduce.specs.Calls.{startOf, givesIn, Keeps, unfit, replyTo, Answers, Returns}
-use Rattle.reduce.specs.Inner.{Placed, placed, keep, isKept, keptIn, givesKept, Opens, Settled, Ready}
+use Rattle.reduce.specs.Reduced.{TextLine, linesIn, joinedLines, isRefusal, gives, LeftOut, Reduced}
+use Rattle.reduce.specs.Calls.{startState, givesIn, Keeps, unfitScript, replyTo, Answers, Returns}
+use Rattle.reduce.specs.Inner.{Placed, placedLines, keep, isKept, keptLines, givesKept, Opens, Settled, Ready}
 use Rattle.reduce.specs.declared.Reduction.{Reduction}
 use Rattle.reduce.proofs.Lines.{joined-lines, all-lines}
 use Rattle.reduce.proofs.Kept.{keep-same, left-out, except, nth, places-rise}
@@ -37,7 +37,7 @@ drop-written l b n e =
     ap (λ (k : ℕ). drop k (written l 0 b)) z ∙ drop-append-seam b (drop (0 + length b) l) ∙ ap (λ (k : ℕ). drop k l) (sym e)
 
 -- a script too long, or output too short
-pub no-room : (a : ℕ) (s out : List ℕ) → unfit s out ≡ true → Answers a s out (record { reply = NoRoom; length = 0 }) out
+pub no-room : (a : ℕ) (s out : List ℕ) → unfitScript s out ≡ true → Answers a s out (record { reply = NoRoom; length = 0 }) out
 unfolding replyTo
 no-room a s out h =
     record {
@@ -48,7 +48,7 @@ no-room a s out h =
       none = λ n. refl;
     }
 
-module _ (a : ℕ) (s : List ℕ) (o : Opened) (out : List ℕ) (y : Ready s o out) where
+module _ (a : ℕ) (s : List ℕ) (o : ScriptHead) (out : List ℕ) (y : Ready s o out) where
   pub short : length s ≤ topScript
   short = ltb-false topScript (length s) (or-neither (ltb topScript (length s)) (ltb (length out) (length s)) (y .fits) .0)
 
@@ -95,21 +95,21 @@ module _ (a : ℕ) (s : List ℕ) (o : Opened) (out : List ℕ) (y : Ready s o o
     pub opens : Opens s o
     opens = record { loads = opening-loads (split 10 s) (openingOf o) (linesOf s o) (read-back true d); from = y .from }
 
-    place-is : o .at ≡ placeOf s (linesOf s o)
-    place-is = ap (λ (x : Opened). x .at) (y .is)
-        ∙ ap (λ (r : Reading Opening). openedOf s (configRead (split 10 s)) r .at) (read-back true d)
+    place-is : o .at ≡ linesStart s (linesOf s o)
+    place-is = ap (λ (x : ScriptHead). x .at) (y .is)
+        ∙ ap (λ (r : Reading Opening). scriptHeadOf s (configRead (split 10 s)) r .at) (read-back true d)
 
     abbrev lines : List Placed
-    lines = placed (o .at) (linesOf s o)
+    lines = placedLines (o .at) (linesOf s o)
 
-    long-lines : length (joined (linesIn (linesOf s o))) + o .at ≡ length s
+    long-lines : length (joinedLines (linesIn (linesOf s o))) + o .at ≡ length s
     long-lines = omega (arith, ap length (joined-lines (drop (o .at) s)), length-drop (o .at) s, y .from)
 
     module _ (ms : List ℕ) where
       -- all lines are marked at first
       module _ (h : keep (isKept ms 0 0) lines ≡ linesIn (linesOf s o)) where
         all-given : givesKept a s o ms 0 0 ≡ givesIn a opened
-        all-given = ap (gives a (startOf (openingOf o))) h
+        all-given = ap (gives a (startState (openingOf o))) h
 
         pub events-none : givesKept a s o ms 0 0 ≡ false → Answers a s out (record { reply = NotGiven; length = 0 }) out
         events-none g = not-given opened (read-back true d) (sym all-given ∙ g)
@@ -118,15 +118,15 @@ module _ (a : ℕ) (s : List ℕ) (o : Opened) (out : List ℕ) (y : Ready s o o
         events-given g = sym all-given ∙ g
 
       -- what is kept is reduced
-      reduced : Settled a s o ms → Reduced a (startOf (openingOf o)) (linesIn (linesOf s o)) (keptIn s o ms 0 0)
+      reduced : Settled a s o ms → Reduced a (startState (openingOf o)) (linesIn (linesOf s o)) (keptLines s o ms 0 0)
       reduced q =
           record {
-            kept = subst (LeftOut (keptIn s o ms 0 0)) (all-lines (o .at) (linesOf s o)) (left-out (isKept ms 0 0) lines);
+            kept = subst (LeftOut (keptLines s o ms 0 0)) (all-lines (o .at) (linesOf s o)) (left-out (isKept ms 0 0) lines);
             given = q .given;
             lean = λ i l.
-                let n = nth (isKept ms 0 0) (o .at) (o .at + length (joined (linesIn (linesOf s o)))) lines
+                let n = nth (isKept ms 0 0) (o .at) (o .at + length (joinedLines (linesIn (linesOf s o)))) lines
                 (places-rise (o .at) (linesOf s o)) i l in
-                ap (gives a (startOf (openingOf o)))
+                ap (gives a (startState (openingOf o)))
                 (sym (n .is) ∙ keep-same (except (isKept ms 0 0) (n .place)) (isKept ms (n .place) (n .place + 1)) lines
                 (except-kept ms (n .place)))
                 ∙ q .lean (n .place) (n .from) (omega (arith, n .to, long-lines))
@@ -134,7 +134,7 @@ module _ (a : ℕ) (s : List ℕ) (o : Opened) (out : List ℕ) (y : Ready s o o
           }
 
       abbrev keptText : List ℕ
-      keptText = joined (keptIn s o ms 0 0)
+      keptText = joinedLines (keptLines s o ms 0 0)
 
       -- it is no longer than the script
       text-short : length (take (o .at) s ++ keptText) ≤ length s
@@ -144,7 +144,7 @@ module _ (a : ℕ) (s : List ℕ) (o : Opened) (out : List ℕ) (y : Ready s o o
             length-append (take (o .at) s) keptText,
             length-take-le (o .at) s (y .from),
             kept-short (isKept ms 0 0) lines,
-            ap (λ (ls : List TextLine). length (joined ls)) (all-lines (o .at) (linesOf s o)),
+            ap (λ (ls : List TextLine). length (joinedLines ls)) (all-lines (o .at) (linesOf s o)),
             long-lines,
           )
 
@@ -163,7 +163,7 @@ module _ (a : ℕ) (s : List ℕ) (o : Opened) (out : List ℕ) (y : Ready s o o
             → Answers a s out (record { reply = Done; length = n }) after
         events-done g q n after p =
             given opened (read-back true d) g (take (o .at) s ++ keptText) text-short
-            (record { lines = keptIn s o ms 0 0; reduced = reduced q; is = ap (λ (k : ℕ). take k s ++ keptText) place-is }) n after
+            (record { lines = keptLines s o ms 0 0; reduced = reduced q; is = ap (λ (k : ℕ). take k s ++ keptText) place-is }) n after
             (then (omega (arith, length-take-le (o .at) s (y .from), room, y .from)) head-put p)
 
   -- a line before the events is refused
@@ -171,7 +171,7 @@ module _ (a : ℕ) (s : List ℕ) (o : Opened) (out : List ℕ) (y : Ready s o o
     pub head-none : isRefusal a (o .answer) ≡ false → Answers a s out (record { reply = NotGiven; length = 0 }) out
     head-none g = not-given (refused (o .line) (o .answer)) (read-back false d) g
 
-    module _ (e : ℕ) (h : e ≡ length (joined (take (o .line) (linesIn (split 10 s))))) where
+    module _ (e : ℕ) (h : e ≡ length (joinedLines (take (o .line) (linesIn (split 10 s))))) where
       pub head-within : e ≤ length s
       head-within = omega (arith, h, first-within s (o .line))
 
@@ -203,9 +203,9 @@ module _ (a : ℕ) (s out : List ℕ) (r : Reduction) (after : List ℕ) (q : An
 
     pub call-short : r .length ≤ topScript
     unfolding replyTo
-    call-short = omega (arith, q .within, go (unfit s out) refl (sym (q .reply) ∙ is-done))
+    call-short = omega (arith, q .within, go (unfitScript s out) refl (sym (q .reply) ∙ is-done))
       where
-        go : (t : Bool) → unfit s out ≡ t → cond t NoRoom (cond (givesIn a (opening (split 10 s))) Done NotGiven) ≡ Done
+        go : (t : Bool) → unfitScript s out ≡ t → cond t NoRoom (cond (givesIn a (opening (split 10 s))) Done NotGiven) ≡ Done
             → length s ≤ topScript
         go true g k = absurd (let z : _≡_ {A = ℕ} 0 1 = cc in omega arith)
         go false g k = ltb-false topScript (length s) (or-neither (ltb topScript (length s)) (ltb (length out) (length s)) g .0)

@@ -12,11 +12,11 @@ use lib.ListN.{length, take, length-append}
 use lib.Seq.{take-at}
 use Rattle.text.specs.Read.{front, split}
 use Rattle.text.proofs.Pieces.{Some, split-some}
-use Rattle.script.specs.load.Opening.{got, Opening, opening, bytesIn, placeOf}
+use Rattle.script.specs.load.Opening.{got, Opening, opening, bytesIn, linesStart}
 use Rattle.reduce.proofs.Kept.{weaken}
 use Rattle.reduce.specs.Again.{eventLines, withoutEvent}
-use Rattle.reduce.specs.Reduced.{without, TextLine, ended, unended, linesIn, joined, gives, LeftOut}
-use Rattle.reduce.specs.Calls.{startOf, givesIn, KeptOf}
+use Rattle.reduce.specs.Reduced.{without, TextLine, ended, unended, linesIn, joinedLines, gives, LeftOut}
+use Rattle.reduce.specs.Calls.{startState, givesIn, KeptOf}
 use Rattle.reduce.proofs.Lines.{joined-lines, lines-cut}
 use Rattle.reduce.proofs.Heads.{Got, some-append, Read, opening-read}
 
@@ -63,43 +63,45 @@ split-open [] h = refl
 split-open (b ∷ p) h = ap (λ (x : Bool). cond x ([] ∷ split 10 p) (front b (split 10 p))) (h .0) ∙ ap (front b) (split-open p (h .1))
 
 -- lines that are kept, read again
-none-again : linesIn (split 10 (joined [])) ≡ []
-unfolding linesIn split joined
+none-again : linesIn (split 10 (joinedLines [])) ≡ []
+unfolding linesIn split joinedLines
 none-again = refl
 
-ended-again : (k : TextLine) (l : List ℕ) (ks : List TextLine) → Clean l → k ≡ ended l → linesIn (split 10 (joined ks)) ≡ ks
-    → linesIn (split 10 (joined (k ∷ ks))) ≡ k ∷ ks
-unfolding joined
+ended-again : (k : TextLine) (l : List ℕ) (ks : List TextLine) → Clean l → k ≡ ended l → linesIn (split 10 (joinedLines ks)) ≡ ks
+    → linesIn (split 10 (joinedLines (k ∷ ks))) ≡ k ∷ ks
+unfolding joinedLines
 ended-again k l ks c e h =
-    ap (λ (x : TextLine). linesIn (split 10 (x .text ++ joined ks))) e
-    ∙ ap linesIn (split-ended l (joined ks) c)
-    ∙ lines-cut l (split 10 (joined ks)) (split-some 10 (joined ks))
+    ap (λ (x : TextLine). linesIn (split 10 (x .text ++ joinedLines ks))) e
+    ∙ ap linesIn (split-ended l (joinedLines ks) c)
+    ∙ lines-cut l (split 10 (joinedLines ks)) (split-some 10 (joinedLines ks))
     ∙ ap₂ (λ (x : TextLine) (r : List TextLine). x ∷ r) (sym e) h
 
-unended-again : (k : TextLine) (b : ℕ) (l : List ℕ) → Clean (b ∷ l) → k ≡ unended (b ∷ l) → linesIn (split 10 (joined (k ∷ []))) ≡ k ∷ []
-unfolding joined linesIn
+unended-again : (k : TextLine) (b : ℕ) (l : List ℕ) → Clean (b ∷ l) → k ≡ unended (b ∷ l)
+    → linesIn (split 10 (joinedLines (k ∷ []))) ≡ k ∷ []
+unfolding joinedLines linesIn
 unended-again k b l c e =
     ap (λ (x : TextLine). linesIn (split 10 (x .text ++ []))) e
     ∙ ap (λ (t : List ℕ). linesIn (split 10 t)) (append-nil (b ∷ l))
     ∙ ap linesIn (split-open (b ∷ l) c)
     ∙ ap (λ (x : TextLine). x ∷ []) (sym e)
 
-pub kept-again : (ls : List (List ℕ)) (ks : List TextLine) → AllClean ls → LeftOut ks (linesIn ls) → linesIn (split 10 (joined ks)) ≡ ks
+pub kept-again : (ls : List (List ℕ)) (ks : List TextLine) → AllClean ls → LeftOut ks (linesIn ls)
+    → linesIn (split 10 (joinedLines ks)) ≡ ks
 unfolding linesIn
 kept-again ls [] c h = none-again
 kept-again [] (k ∷ ks) c h = absurd h
 kept-again ([] ∷ []) (k ∷ ks) c h = absurd h
 kept-again ((b ∷ l) ∷ []) (k ∷ ks) c h = last ks h
   where
-    last : (ks : List TextLine) → LeftOut (k ∷ ks) (unended (b ∷ l) ∷ []) → linesIn (split 10 (joined (k ∷ ks))) ≡ k ∷ ks
+    last : (ks : List TextLine) → LeftOut (k ∷ ks) (unended (b ∷ l) ∷ []) → linesIn (split 10 (joinedLines (k ∷ ks))) ≡ k ∷ ks
     last [] (inl p) = unended-again k b l (c .0) (p .0)
     last (j ∷ ks) (inl p) = absurd (p .1)
     last ks (inr p) = absurd p
 kept-again (l ∷ m ∷ ls) (k ∷ ks) c h = more h (λ x. kept-again (m ∷ ls) ks (c .1) x) (λ x. kept-again (m ∷ ls) (k ∷ ks) (c .1) x)
   where
-    more : LeftOut (k ∷ ks) (ended l ∷ linesIn (m ∷ ls)) → (LeftOut ks (linesIn (m ∷ ls)) → linesIn (split 10 (joined ks)) ≡ ks)
-        → (LeftOut (k ∷ ks) (linesIn (m ∷ ls)) → linesIn (split 10 (joined (k ∷ ks))) ≡ k ∷ ks)
-        → linesIn (split 10 (joined (k ∷ ks))) ≡ k ∷ ks
+    more : LeftOut (k ∷ ks) (ended l ∷ linesIn (m ∷ ls)) → (LeftOut ks (linesIn (m ∷ ls)) → linesIn (split 10 (joinedLines ks)) ≡ ks)
+        → (LeftOut (k ∷ ks) (linesIn (m ∷ ls)) → linesIn (split 10 (joinedLines (k ∷ ks))) ≡ k ∷ ks)
+        → linesIn (split 10 (joinedLines (k ∷ ks))) ≡ k ∷ ks
     more (inl p) f g = ended-again k l ks (c .0) (p .0) (f (p .1))
     more (inr p) f g = g p
 
@@ -116,36 +118,36 @@ split-closed (p ∷ ps) t h =
     ∙ split-ended p (closed ps ++ t) (h .0)
     ∙ ap (λ (r : List (List ℕ)). p ∷ r) (split-closed ps t (h .1))
 
-joined-closed : (hs ls : List (List ℕ)) → Some ls → joined (linesIn (hs ++ ls)) ≡ closed hs ++ joined (linesIn ls)
-unfolding closed joined
+joined-closed : (hs ls : List (List ℕ)) → Some ls → joinedLines (linesIn (hs ++ ls)) ≡ closed hs ++ joinedLines (linesIn ls)
+unfolding closed joinedLines
 joined-closed [] ls h = refl
 joined-closed (p ∷ ps) ls h =
-    ap joined (lines-cut p (ps ++ ls) (some-append ps ls h))
+    ap joinedLines (lines-cut p (ps ++ ls) (some-append ps ls h))
     ∙ ap (λ (r : List ℕ). (p ++ (10 ∷ [])) ++ r) (joined-closed ps ls h)
-    ∙ sym (append-assoc (p ++ (10 ∷ [])) (closed ps) (joined (linesIn ls)))
+    ∙ sym (append-assoc (p ++ (10 ∷ [])) (closed ps) (joinedLines (linesIn ls)))
 
-bytes-joined : (ls : List (List ℕ)) → bytesIn ls ≡ length (joined (linesIn ls))
-unfolding bytesIn joined linesIn
+bytes-joined : (ls : List (List ℕ)) → bytesIn ls ≡ length (joinedLines (linesIn ls))
+unfolding bytesIn joinedLines linesIn
 bytes-joined [] = refl
 bytes-joined ([] ∷ []) = refl
 bytes-joined ((b ∷ l) ∷ []) = ap length (sym (append-nil (b ∷ l)))
 bytes-joined (l ∷ m ∷ ls) =
-    let r = joined (linesIn (m ∷ ls)) in
+    let r = joinedLines (linesIn (m ∷ ls)) in
     let k : length ((l ++ (10 ∷ [])) ++ r) ≡ length l + 1 + length r = length-append (l ++ (10 ∷ [])) r
     ∙ ap (λ (n : ℕ). n + length r) (length-append l (10 ∷ [])) in
     omega (arith, k, bytes-joined (m ∷ ls))
 
 -- the head as bytes is that of the pieces read
-head-is : (s : List ℕ) (hs ls : List (List ℕ)) → Some ls → split 10 s ≡ hs ++ ls → take (placeOf s ls) s ≡ closed hs
+head-is : (s : List ℕ) (hs ls : List (List ℕ)) → Some ls → split 10 s ≡ hs ++ ls → take (linesStart s ls) s ≡ closed hs
 head-is s hs ls h e =
-    let r = joined (linesIn ls) in
-    let k : s ≡ closed hs ++ r = sym (joined-lines s) ∙ ap (λ (ps : List (List ℕ)). joined (linesIn ps)) e ∙ joined-closed hs ls h in
-    let z : length (closed hs) ≡ placeOf s ls = omega (arith, ap length k, length-append (closed hs) r, bytes-joined ls) in
-    ap (take (placeOf s ls)) k ∙ take-at (closed hs) r (placeOf s ls) z
+    let r = joinedLines (linesIn ls) in
+    let k : s ≡ closed hs ++ r = sym (joined-lines s) ∙ ap (λ (ps : List (List ℕ)). joinedLines (linesIn ps)) e ∙ joined-closed hs ls h in
+    let z : length (closed hs) ≡ linesStart s ls = omega (arith, ap length k, length-append (closed hs) r, bytes-joined ls) in
+    ap (take (linesStart s ls)) k ∙ take-at (closed hs) r (linesStart s ls) z
 
 -- a script that opens, with its head and some of its event lines
 module _ (s : List ℕ) (o : Opening) (ls : List (List ℕ)) (e : opening (split 10 s) ≡ got o ls) (text : List ℕ) (ks : List TextLine)
-    (kept : LeftOut ks (linesIn ls)) (is : text ≡ take (placeOf s ls) s ++ joined ks) where
+    (kept : LeftOut ks (linesIn ls)) (is : text ≡ take (linesStart s ls) s ++ joinedLines ks) where
   read : Read opening (split 10 s) o ls
   read = subst (Got (Read opening (split 10 s))) e (opening-read (split 10 s) (split-some 10 s))
 
@@ -153,19 +155,19 @@ module _ (s : List ℕ) (o : Opening) (ls : List (List ℕ)) (e : opening (split
   clean = clean-append (read .head) ls (subst AllClean (read .is) (split-clean s))
 
   -- it opens with the same settings and table, and its event lines are those that are kept
-  opens-again : opening (split 10 text) ≡ got o (split 10 (joined ks))
+  opens-again : opening (split 10 text) ≡ got o (split 10 (joinedLines ks))
   opens-again =
       ap (λ (t : List ℕ). opening (split 10 t))
-      (is ∙ ap (λ (h : List ℕ). h ++ joined ks) (head-is s (read .head) ls (read .more) (read .is)))
-      ∙ ap opening (split-closed (read .head) (joined ks) (clean .0))
-      ∙ read .same (split 10 (joined ks)) (split-some 10 (joined ks))
+      (is ∙ ap (λ (h : List ℕ). h ++ joinedLines ks) (head-is s (read .head) ls (read .more) (read .is)))
+      ∙ ap opening (split-closed (read .head) (joinedLines ks) (clean .0))
+      ∙ read .same (split 10 (joinedLines ks)) (split-some 10 (joinedLines ks))
 
-  lines-again : linesIn (split 10 (joined ks)) ≡ ks
+  lines-again : linesIn (split 10 (joinedLines ks)) ≡ ks
   lines-again = kept-again ls ks (clean .1) kept
 
   -- so it gives what the kept lines give
-  given-again : (a : ℕ) → givesIn a (opening (split 10 text)) ≡ gives a (startOf o) ks
-  given-again a = ap (givesIn a) opens-again ∙ ap (gives a (startOf o)) lines-again
+  given-again : (a : ℕ) → givesIn a (opening (split 10 text)) ≡ gives a (startState o) ks
+  given-again a = ap (givesIn a) opens-again ∙ ap (gives a (startState o)) lines-again
 
 -- lines without one of them
 all-out : (ks : List TextLine) → LeftOut ks ks
@@ -187,16 +189,16 @@ module _ (a : ℕ) (s : List ℕ) (o : Opening) (ls : List (List ℕ)) (e : open
   gives-again = given-again s o ls e text ks (k .reduced .kept) (k .is) a ∙ k .reduced .given
 
   -- without any one of its event lines, written and read once more, it does not give the number
-  opens : opening (split 10 text) ≡ got o (split 10 (joined ks))
+  opens : opening (split 10 text) ≡ got o (split 10 (joinedLines ks))
   opens = opens-again s o ls e text ks (k .reduced .kept) (k .is)
 
-  same-lines : linesIn (split 10 (joined ks)) ≡ ks
+  same-lines : linesIn (split 10 (joinedLines ks)) ≡ ks
   same-lines = lines-again s o ls e text ks (k .reduced .kept) (k .is)
 
   pub lean-again : (i : ℕ) → i < length (eventLines (opening (split 10 text)))
       → givesIn a (opening (split 10 (withoutEvent i text (opening (split 10 text))))) ≡ false
   lean-again i = rw opens (λ h.
-      given-again text o (split 10 (joined ks)) opens _ (without i (linesIn (split 10 (joined ks))))
-      (out-without i (linesIn (split 10 (joined ks)))) refl a
-      ∙ ap (λ (r : List TextLine). gives a (startOf o) (without i r)) same-lines
+      given-again text o (split 10 (joinedLines ks)) opens _ (without i (linesIn (split 10 (joinedLines ks))))
+      (out-without i (linesIn (split 10 (joinedLines ks)))) refl a
+      ∙ ap (λ (r : List TextLine). gives a (startState o) (without i r)) same-lines
       ∙ k .reduced .lean i (subst (λ (r : List TextLine). i < length r) same-lines h))

@@ -1,4 +1,4 @@
--- The world in which the events begin.
+-- The state in which the events begin.
 -- Assumes nothing.
 use mathlib.Core.Path.{_≡_, refl, ap, _∙_}
 use mathlib.Core.Bool.{true}
@@ -17,12 +17,12 @@ use Rattle.windows.proofs.Copies.{no-words}
 use Rattle.machine.specs.Layout.{Store, siteIn}
 use Rattle.machine.specs.hours.Hours.{Timed}
 use Rattle.machine.specs.hours.Stored.{storedLoad, timedLoadedSite}
-use Rattle.machine.specs.declared.Turned.{Turned}
+use Rattle.machine.specs.declared.DayAnswer.{DayAnswer}
 use Rattle.machine.proofs.hours.Stored.{as-load, as-begun}
-use Rattle.script.specs.declared.Opened.{Opened}
-use Rattle.desk.specs.listings.Inner.{worldIn, openingOf}
+use Rattle.script.specs.declared.ScriptHead.{ScriptHead}
+use Rattle.desk.specs.listings.Inner.{runStateIn, openingOf}
 use Rattle.desk.proofs.listings.Parts.{zeros, zeros-long}
-use Rattle.reduce.specs.Calls.{startOf}
+use Rattle.reduce.specs.Calls.{startState}
 
 -- a day of one epoch and no windows keep the rules
 pub no-windows : (n : ℕ) → listOk n 1 [] ≡ true
@@ -30,14 +30,14 @@ unfolding listOk allBelow
 no-windows n = refl
 
 -- a load with them, of settings and table that were read
-pub begins : (o : Opened) (r : Turned) (u : Store) → loadAnswer (o .config) (o .table) ≡ Done
+pub begins : (o : ScriptHead) (r : DayAnswer) (u : Store) → loadAnswer (o .config) (o .table) ≡ Done
     → r ≡ storedLoad zeros (o .config) (o .table) 1 (windowsIn [])
     → siteIn u ≡ timedLoadedSite zeros (o .config) (o .table) 1 (windowsIn [])
-    → worldIn u (r .day) (replicate areaSize 0) ≡ startOf (openingOf o)
+    → runStateIn u (r .day) (replicate areaSize 0) ≡ startState (openingOf o)
 begins o r u h k q =
     let f = o .config in
     let t = o .table in
     ap (λ (x : Timed). record { timed = x; area = replicate areaSize 0 })
     (as-begun zeros u f t 1 [] (r .day) (as-load zeros f t 1 [] zeros-long h ∙ hit _ _ _ (no-windows (f .nodes)))
-    (ap (λ (x : Turned). x .day) k)
+    (ap (λ (x : DayAnswer). x .day) k)
     (q ∙ ap (λ (ws : List Window). timedLoadedSite zeros f t 1 ws) no-words))

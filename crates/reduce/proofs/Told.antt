@@ -13,15 +13,15 @@ use Rattle.words.proofs.Tests.{hit, skip, or-neither}
 use Rattle.text.specs.Read.{split}
 use Rattle.node.specs.declared.Answer.the-variants.{Done, OutOfRange, NoRoom, NotGiven}
 use Rattle.site.specs.Answers.{areaSize}
-use Rattle.machine.specs.hours.Calls.{TimedWorld}
+use Rattle.machine.specs.hours.Calls.{TimedState}
 use Rattle.script.specs.events.Events.{eventOf}
 use Rattle.script.specs.load.Opening.{Reading, refused, got, Opening, opening}
-use Rattle.desk.specs.listing.Rows.{firstHead, reportOf, rowsText}
-use Rattle.desk.specs.listings.Output.{secondHead, topScript, lineAnswer, lineAfter, reports, finished, ranText, body, outputOf}
+use Rattle.desk.specs.listing.Rows.{firstHead, refusalLine, rowsText}
+use Rattle.desk.specs.listings.Output.{secondHead, topScript, lineAnswer, lineAfter, refusedLines, finished, ranText, body, outputOf}
 use Rattle.desk.specs.listings.Output as desk
 use Rattle.reduce.specs.Reduced.{linesIn, isRefusal, gives}
-use Rattle.reduce.specs.Calls.{startOf, givesIn, Keeps, unfit, replyTo, Answers}
-use Rattle.reduce.specs.Again.{eventLines, withoutEvent, Answered, told, tells, Told, GivesAgain}
+use Rattle.reduce.specs.Calls.{startState, givesIn, Keeps, unfitScript, replyTo, Answers}
+use Rattle.reduce.specs.Again.{eventLines, withoutEvent, Answered, listingLines, tells, TellsRefusals, GivesAgain}
 use Rattle.reduce.proofs.Kept.{or-false}
 use Rattle.reduce.proofs.Start.{no-windows}
 use Rattle.reduce.specs.declared.Reduction.{Reduction}
@@ -33,23 +33,23 @@ abbrev lastAnswered : ℕ → List ℕ → List Answered
 lastAnswered n [] = []
 lastAnswered n (b ∷ l) = record { line = n; answer = OutOfRange } ∷ []
 
-unfoldable answered : TimedWorld → ℕ → List (List ℕ) → List Answered
+unfoldable answered : TimedState → ℕ → List (List ℕ) → List Answered
 answered w n [] = []
 answered w n (l ∷ []) = lastAnswered n l
 answered w n (l ∷ m ∷ ls) = record { line = n; answer = lineAnswer [] w (eventOf l) }
     ∷ answered (lineAfter [] w (eventOf l)) (n + 1) (m ∷ ls)
 
 -- what is told of them are the reports
-told-reports : (w : TimedWorld) (n : ℕ) (ls : List (List ℕ)) → told (answered w n ls) ≡ reports [] w n ls
-unfolding told answered reports
+told-reports : (w : TimedState) (n : ℕ) (ls : List (List ℕ)) → listingLines (answered w n ls) ≡ refusedLines [] w n ls
+unfolding listingLines answered refusedLines
 told-reports w n [] = refl
 told-reports w n ([] ∷ []) = refl
-told-reports w n ((b ∷ l) ∷ []) = append-nil (reportOf n OutOfRange)
+told-reports w n ((b ∷ l) ∷ []) = append-nil (refusalLine n OutOfRange)
 told-reports w n (l ∷ m ∷ ls) =
-    ap (λ (r : List ℕ). reportOf n (lineAnswer [] w (eventOf l)) ++ r) (told-reports (lineAfter [] w (eventOf l)) (n + 1) (m ∷ ls))
+    ap (λ (r : List ℕ). refusalLine n (lineAnswer [] w (eventOf l)) ++ r) (told-reports (lineAfter [] w (eventOf l)) (n + 1) (m ∷ ls))
 
 -- and they tell what is given
-tells-given : (a : ℕ) (w : TimedWorld) (n : ℕ) (ls : List (List ℕ)) → gives a w (linesIn ls) ≡ tells a (answered w n ls)
+tells-given : (a : ℕ) (w : TimedState) (n : ℕ) (ls : List (List ℕ)) → gives a w (linesIn ls) ≡ tells a (answered w n ls)
 unfolding gives linesIn tells answered
 tells-given a w n [] = refl
 tells-given a w n ([] ∷ []) = refl
@@ -65,18 +65,18 @@ record Body (r : Reading Opening) : Type 0 where
   lines : List Answered
   rest : List ℕ
   rows : List ℕ
-  is : body 1 [] zeros r ≡ told lines ++ rest
+  is : body 1 [] zeros r ≡ listingLines lines ++ rest
   behind : (rest ≡ []) ⊎ (rest ≡ secondHead ++ rows)
   given : (a : ℕ) → givesIn a r ≡ tells a lines
 
 body-told : (r : Reading Opening) → Body r
-unfolding told tells
+unfolding listingLines tells
 body-told (refused n x) =
     record {
       lines = record { line = n; answer = x } ∷ [];
       rest = [];
       rows = [];
-      is = sym (append-nil (reportOf n x ++ []) ∙ append-nil (reportOf n x));
+      is = sym (append-nil (refusalLine n x ++ []) ∙ append-nil (refusalLine n x));
       behind = inl refl;
       given = λ a. sym (or-false (isRefusal a x));
     }
@@ -84,17 +84,17 @@ body-told (got o ls) =
     let k = 5 + o .config .nodes in
     let t = rowsText (o .config .nodes) 0 (finished 1 [] o zeros ls .timed .site .members) (o .config .slots) in
     record {
-      lines = answered (startOf o) k ls;
+      lines = answered (startState o) k ls;
       rest = secondHead ++ t;
       rows = t;
       is = hit _ (ranText 1 [] o zeros ls) _ (no-windows (o .config .nodes))
-          ∙ ap (λ (x : List ℕ). x ++ (secondHead ++ t)) (sym (told-reports (startOf o) k ls));
+          ∙ ap (λ (x : List ℕ). x ++ (secondHead ++ t)) (sym (told-reports (startState o) k ls));
       behind = inr refl;
-      given = λ a. tells-given a (startOf o) k ls;
+      given = λ a. tells-given a (startState o) k ls;
     }
 
 -- a whole listing
-pub listing-tells : (s : List ℕ) → length s ≤ topScript → Told s
+pub listing-tells : (s : List ℕ) → length s ≤ topScript → TellsRefusals s
 unfolding outputOf
 listing-tells s l =
     let b = body-told (opening (split 10 s)) in
@@ -103,7 +103,7 @@ listing-tells s l =
     record {
       lines = b .lines;
       rest = b .rest;
-      listing = ap₂ (λ (k : ℕ) (x : List ℕ). firstHead k ++ x) (skip _ 0 _ _ z refl) (skip _ (reportOf 0 NoRoom) _ _ z (b .is));
+      listing = ap₂ (λ (k : ℕ) (x : List ℕ). firstHead k ++ x) (skip _ 0 _ _ z refl) (skip _ (refusalLine 0 NoRoom) _ _ z (b .is));
       rows = b .rows;
       behind = b .behind;
       given = b .given;
@@ -136,7 +136,7 @@ pub again : (a : ℕ) (s out : List ℕ) (r : Reduction) (after : List ℕ) → 
     → GivesAgain a (take (r .length) after)
 unfolding replyTo
 again a s out r after q d =
-    let f = done-is (unfit s out) (givesIn a (opening (split 10 s))) (sym (q .reply) ∙ d) in
+    let f = done-is (unfitScript s out) (givesIn a (opening (split 10 s))) (sym (q .reply) ∙ d) in
     let l : length s ≤ topScript = ltb-false topScript (length s)
     (or-neither (ltb topScript (length s)) (ltb (length out) (length s)) (f .0) .0) in
     record {

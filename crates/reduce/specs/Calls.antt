@@ -14,39 +14,39 @@ use Rattle.node.specs.Answers.{number}
 use Rattle.node.specs.declared.Answer.{Answer}
 use Rattle.node.specs.declared.Answer.the-variants.{Done, NoRoom, NotGiven}
 use Rattle.site.specs.Answers.{areaSize}
-use Rattle.machine.specs.hours.Calls.{TimedWorld}
-use Rattle.script.specs.load.Opening.{Reading, refused, got, Opening, opening, placeOf}
-use Rattle.desk.specs.listings.Output.{topScript, loadedWorld}
-use Rattle.reduce.specs.Reduced.{linesIn, joined, TextLine, isRefusal, gives, Reduced}
+use Rattle.machine.specs.hours.Calls.{TimedState}
+use Rattle.script.specs.load.Opening.{Reading, refused, got, Opening, opening, linesStart}
+use Rattle.desk.specs.listings.Output.{topScript, loadedState}
+use Rattle.reduce.specs.Reduced.{linesIn, joinedLines, TextLine, isRefusal, gives, Reduced}
 use Rattle.reduce.specs.declared.Reduction.{Reduction}
 
--- the world in which the events begin
-abbrev pub startOf : Opening → TimedWorld
-startOf o = loadedWorld 1 [] o (replicate areaSize 0)
+-- the state in which the events begin
+abbrev pub startState : Opening → TimedState
+startState o = loadedState 1 [] o (replicate areaSize 0)
 
 -- whether a script gives the number: by a line before the events, which is then its last, or by an event line
 abbrev pub givesIn : ℕ → Reading Opening → Bool
 givesIn a (refused n x) = isRefusal a x
-givesIn a (got o ls) = gives a (startOf o) (linesIn ls)
+givesIn a (got o ls) = gives a (startState o) (linesIn ls)
 
 -- what is kept of a script that opens, as bytes: its settings, table and names, and the event lines of a reduction
 pub record KeptOf (a : ℕ) (s : List ℕ) (o : Opening) (ls : List (List ℕ)) (text : List ℕ) : Type 0 where
   pub lines : List TextLine
-  pub reduced : Reduced a (startOf o) (linesIn ls) lines
-  pub is : text ≡ take (placeOf s ls) s ++ joined lines
+  pub reduced : Reduced a (startState o) (linesIn ls) lines
+  pub is : text ≡ take (linesStart s ls) s ++ joinedLines lines
 
 -- what is kept of a script: where line n before the events is refused, the lines up to and with it, and all where it is missing
 abbrev pub Keeps : ℕ → List ℕ → List ℕ → Reading Opening → Type 0
-Keeps a s text (refused n x) = text ≡ joined (take n (linesIn (split 10 s)))
+Keeps a s text (refused n x) = text ≡ joinedLines (take n (linesIn (split 10 s)))
 Keeps a s text (got o ls) = KeptOf a s o ls text
 
 -- a script above the limit, or an output that could not hold it
-abbrev pub unfit : List ℕ → List ℕ → Bool
-unfit s out = ltb topScript (length s) || ltb (length out) (length s)
+abbrev pub unfitScript : List ℕ → List ℕ → Bool
+unfitScript s out = ltb topScript (length s) || ltb (length out) (length s)
 
 -- the answer
 unfoldable pub replyTo : ℕ → List ℕ → List ℕ → Answer
-replyTo a s out = cond (unfit s out) NoRoom (cond (givesIn a (opening (split 10 s))) Done NotGiven)
+replyTo a s out = cond (unfitScript s out) NoRoom (cond (givesIn a (opening (split 10 s))) Done NotGiven)
 
 -- an answer with the length of what was written: what that is, and that every byte behind it is as it was. After a refusal the length is 0,
 -- so that no byte is changed.

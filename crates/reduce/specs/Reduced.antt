@@ -10,7 +10,7 @@ use lib.Dec.{eqb, ltb}
 use lib.ListN.{length}
 use Rattle.node.specs.Answers.{number}
 use Rattle.node.specs.declared.Answer.{Answer}
-use Rattle.machine.specs.hours.Calls.{TimedWorld}
+use Rattle.machine.specs.hours.Calls.{TimedState}
 use Rattle.script.specs.events.Events.{eventOf}
 use Rattle.script.specs.declared.Parsed.{Parsed}
 use Rattle.script.specs.declared.Parsed.the-variants.{Malformed}
@@ -39,16 +39,16 @@ linesIn (l ∷ []) = lastLine l
 linesIn (l ∷ m ∷ ls) = ended l ∷ linesIn (m ∷ ls)
 
 -- lines one behind another, as bytes
-unfoldable pub joined : List TextLine → List ℕ
-joined [] = []
-joined (l ∷ ls) = l .text ++ joined ls
+unfoldable pub joinedLines : List TextLine → List ℕ
+joinedLines [] = []
+joinedLines (l ∷ ls) = l .text ++ joinedLines ls
 
 -- an answer is the refusal of that number; 0 is none
 abbrev pub isRefusal : ℕ → Answer → Bool
 isRefusal a x = ltb 0 a && eqb (number x) a
 
--- whether event lines, run from a world with no windows, give a refusal number
-unfoldable pub gives : ℕ → TimedWorld → List TextLine → Bool
+-- whether event lines, run from a state with no windows, give a refusal number
+unfoldable pub gives : ℕ → TimedState → List TextLine → Bool
 gives a w [] = false
 gives a w (l ∷ ls) = isRefusal a (lineAnswer [] w (l .says)) || gives a (lineAfter [] w (l .says)) ls
 
@@ -65,7 +65,7 @@ without zero (l ∷ ls) = ls
 without (suc i) (l ∷ ls) = l ∷ without i ls
 
 -- ks is what is kept of the event lines ls for the number a: it is given, and no longer if any single line is left out
-pub record Reduced (a : ℕ) (w : TimedWorld) (ls ks : List TextLine) : Type 0 where
+pub record Reduced (a : ℕ) (w : TimedState) (ls ks : List TextLine) : Type 0 where
   pub kept : LeftOut ks ls
   pub given : gives a w ks ≡ true
   pub lean : (i : ℕ) → i < length ks → gives a w (without i ks) ≡ false

@@ -11,18 +11,19 @@ ghost use Rattle.node.specs.Answers.{isDone};
 ghost use Rattle.site.specs.Answers.{areaSize};
 ghost use Rattle.machine.specs.Layout.{store, siteIn, wordsSize, bytesSize};
 ghost use Rattle.script.specs.events.Events.{eventOf};
-ghost use Rattle.desk.specs.listings.Inner.{worldIn};
-ghost use Rattle.reduce.specs.Reduced.{linesIn, joined, isRefusal, gives};
+ghost use Rattle.desk.specs.listings.Inner.{runStateIn};
+ghost use Rattle.reduce.specs.Reduced.{linesIn, joinedLines, isRefusal, gives};
 ghost use Rattle.reduce.specs.Calls.{Answers, Returns};
-ghost use Rattle.reduce.specs.Inner.{placed, keep, isKept, lineRun, steppedBy, givesKept, Opens, cleared, Scanned, Settled, Ready};
+ghost use Rattle.reduce.specs.Inner.{placedLines, keep, isKept, lineRun, trialStepBy, givesKept, Opens, marksCleared, Scanned};
+ghost use Rattle.reduce.specs.Inner.{Settled, Ready};
 ghost use Rattle.reduce.specs.Inner.{givesFrom, Passed, Spared};
 use machine::BYTES;
 use machine::Day;
 use machine::WORDS;
 use node::Answer;
 use script::Line;
-use script::Opened;
 use script::Parsed;
+use script::ScriptHead;
 
 // The answer, and how many bytes were written.
 pub struct Reduction {
@@ -31,7 +32,7 @@ pub struct Reduction {
 }
 
 // Whether a line gave the number, and the day after it.
-struct Stepped {
+struct TrialStep {
     gave: bool,
     day: Day,
 }
@@ -68,16 +69,17 @@ fn take_line(
     day: Day,
     p: Parsed,
     number: u32,
-) -> Stepped
+) -> TrialStep
     requires { ⌜ (wordsSize ≤ length (now words)) × (bytesSize ≤ length (now bytes)) ⌝ }
-    ensures { λ r. ⌜ r ≡ steppedBy true number (worldIn (store (now (words .entry)) (now (bytes .entry))) day (now (area .entry))) p ⌝ }
+    ensures { λ r. ⌜ r ≡ trialStepBy true number
+        (runStateIn (store (now (words .entry)) (now (bytes .entry))) day (now (area .entry))) p ⌝ }
     ensures { λ _. ⌜ siteIn (store (now (words .exit)) (now (bytes .exit)))
-        ≡ lineRun true (worldIn (store (now (words .entry)) (now (bytes .entry))) day (now (area .entry))) p .timed .site ⌝ }
+        ≡ lineRun true (runStateIn (store (now (words .entry)) (now (bytes .entry))) day (now (area .entry))) p .timed .site ⌝ }
     ensures { λ _. ⌜ now (area .exit)
-        ≡ lineRun true (worldIn (store (now (words .entry)) (now (bytes .entry))) day (now (area .entry))) p .area ⌝ }
+        ≡ lineRun true (runStateIn (store (now (words .entry)) (now (bytes .entry))) day (now (area .entry))) p .area ⌝ }
 {
     match p {
-        Parsed::Malformed => Stepped {
+        Parsed::Malformed => TrialStep {
             gave: is_refusal(number, Answer::OutOfRange),
             day,
         },
@@ -85,7 +87,7 @@ fn take_line(
             let r = machine::hours::step(words, bytes, area, day, e, &[]);
             let a = r.answer;
             let next = r.day;
-            Stepped {
+            TrialStep {
                 gave: is_refusal(number, a),
                 day: next,
             }
@@ -106,20 +108,22 @@ fn take_kept(
     area: &mut [u8],
     day: Day,
     number: u32,
-) -> Stepped
+) -> TrialStep
     requires { ⌜ (at ≤ e) × (e ≤ length (now script)) × (wordsSize ≤ length (now words)) × (bytesSize ≤ length (now bytes)) ⌝ }
-    ensures { λ r. ⌜ r ≡ steppedBy (isKept (now (marks .entry)) lo hi at) number
-        (worldIn (store (now (words .entry)) (now (bytes .entry))) day (now (area .entry)))
+    ensures { λ r. ⌜ r ≡ trialStepBy (isKept (now (marks .entry)) lo hi at) number
+        (runStateIn (store (now (words .entry)) (now (bytes .entry))) day (now (area .entry)))
         (eventOf (take (e - at) (drop at (now (script .entry))))) ⌝ }
     ensures { λ _. ⌜ siteIn (store (now (words .exit)) (now (bytes .exit)))
-        ≡ lineRun (isKept (now (marks .entry)) lo hi at) (worldIn (store (now (words .entry)) (now (bytes .entry))) day (now (area .entry)))
+        ≡ lineRun (isKept (now (marks .entry)) lo hi at)
+        (runStateIn (store (now (words .entry)) (now (bytes .entry))) day (now (area .entry)))
         (eventOf (take (e - at) (drop at (now (script .entry))))) .timed .site ⌝ }
     ensures { λ _. ⌜ now (area .exit)
-        ≡ lineRun (isKept (now (marks .entry)) lo hi at) (worldIn (store (now (words .entry)) (now (bytes .entry))) day (now (area .entry)))
+        ≡ lineRun (isKept (now (marks .entry)) lo hi at)
+        (runStateIn (store (now (words .entry)) (now (bytes .entry))) day (now (area .entry)))
         (eventOf (take (e - at) (drop at (now (script .entry))))) .area ⌝ }
 {
     if !is_kept(marks, lo, hi, at) {
-        return Stepped { gave: false, day };
+        return TrialStep { gave: false, day };
     }
     take_line(
         words,
@@ -145,8 +149,8 @@ fn run_gives(
     number: u32,
 ) -> bool
     requires { ⌜ (from ≤ length (now script)) × (wordsSize ≤ length (now words)) × (bytesSize ≤ length (now bytes)) ⌝ }
-    ensures { λ r. ⌜ r ≡ gives number (worldIn (store (now (words .entry)) (now (bytes .entry))) start (now (area .entry)))
-        (keep (isKept (now (marks .entry)) lo hi) (placed from (split 10 (drop from (now (script .entry)))))) ⌝ }
+    ensures { λ r. ⌜ r ≡ gives number (runStateIn (store (now (words .entry)) (now (bytes .entry))) start (now (area .entry)))
+        (keep (isKept (now (marks .entry)) lo hi) (placedLines from (split 10 (drop from (now (script .entry)))))) ⌝ }
 {
     let mut day = start;
     let mut at = from;
@@ -197,8 +201,8 @@ fn run_to(
 ) -> Reached
     requires { ⌜ (from ≤ length (now script)) × (wordsSize ≤ length (now words)) × (bytesSize ≤ length (now bytes)) ⌝ }
     ensures { λ r. ⌜ Passed number (now (script .entry)) (now (marks .entry)) from
-        (worldIn (store (now (words .entry)) (now (bytes .entry))) start (now (area .entry))) (r .gave) (r .at)
-        (worldIn (store (now (words .exit)) (now (bytes .exit))) (r .day) (now (area .exit))) ⌝ }
+        (runStateIn (store (now (words .entry)) (now (bytes .entry))) start (now (area .entry))) (r .gave) (r .at)
+        (runStateIn (store (now (words .exit)) (now (bytes .exit))) (r .day) (now (area .exit))) ⌝ }
 {
     let mut day = start;
     let mut at = from;
@@ -264,8 +268,8 @@ fn copy_gives(
 ) -> bool
     requires { ⌜ (from ≤ length (now script)) × (length (now words) ≡ wordsSize) × (length (now bytes) ≡ bytesSize)
         × (length (now area) ≡ areaSize) ⌝ }
-    ensures { λ r. ⌜ r ≡ gives number (worldIn (store (now (words .entry)) (now (bytes .entry))) day (now (area .entry)))
-        (keep (isKept (now (marks .entry)) from hi) (placed from (split 10 (drop from (now (script .entry)))))) ⌝ }
+    ensures { λ r. ⌜ r ≡ gives number (runStateIn (store (now (words .entry)) (now (bytes .entry))) day (now (area .entry)))
+        (keep (isKept (now (marks .entry)) from hi) (placedLines from (split 10 (drop from (now (script .entry)))))) ⌝ }
 {
     let mut own_words = [0u32; WORDS];
     let mut own_bytes = [0u8; BYTES];
@@ -288,7 +292,7 @@ fn copy_gives(
 }
 
 // Whether the kept lines of a script that opens give the number.
-fn kept_gives(script: &[u8], o: Opened, marks: &[u8], lo: usize, hi: usize, number: u32) -> bool
+fn kept_gives(script: &[u8], o: ScriptHead, marks: &[u8], lo: usize, hi: usize, number: u32) -> bool
     requires { ⌜ Opens (now script) o ⌝ }
     ensures { λ r. ⌜ r ≡ givesKept number (now (script .entry)) o (now (marks .entry)) lo hi ⌝ }
 {
@@ -316,7 +320,7 @@ fn kept_gives(script: &[u8], o: Opened, marks: &[u8], lo: usize, hi: usize, numb
 // No mark from lo on and below hi.
 fn clear(marks: &mut [u8], lo: usize, hi: usize)
     requires { ⌜ hi ≤ length (now marks) ⌝ }
-    ensures { λ _. ⌜ now (marks .exit) ≡ cleared (now (marks .entry)) lo hi ⌝ }
+    ensures { λ _. ⌜ now (marks .exit) ≡ marksCleared (now (marks .entry)) lo hi ⌝ }
 {
     for i in lo..hi {
         marks[i] = 0;
@@ -324,10 +328,17 @@ fn clear(marks: &mut [u8], lo: usize, hi: usize)
 }
 
 // Clears the marks from lo on and below hi, if the number is given without them.
-fn attempt(script: &[u8], o: Opened, marks: &mut [u8], lo: usize, hi: usize, number: u32) -> bool
+fn attempt(
+    script: &[u8],
+    o: ScriptHead,
+    marks: &mut [u8],
+    lo: usize,
+    hi: usize,
+    number: u32,
+) -> bool
     requires { ⌜ Opens (now script) o × (hi ≤ length (now marks)) ⌝ }
     ensures { λ r. ⌜ r ≡ givesKept number (now (script .entry)) o (now (marks .entry)) lo hi ⌝ }
-    ensures { λ r. ⌜ now (marks .exit) ≡ cond r (cleared (now (marks .entry)) lo hi) (now (marks .entry)) ⌝ }
+    ensures { λ r. ⌜ now (marks .exit) ≡ cond r (marksCleared (now (marks .entry)) lo hi) (now (marks .entry)) ⌝ }
 {
     if !kept_gives(script, o, marks, lo, hi, number) {
         return false;
@@ -337,11 +348,11 @@ fn attempt(script: &[u8], o: Opened, marks: &mut [u8], lo: usize, hi: usize, num
 }
 
 // The mark of a single place.
-fn attempt_line(script: &[u8], o: Opened, marks: &mut [u8], at: usize, number: u32) -> bool
+fn attempt_line(script: &[u8], o: ScriptHead, marks: &mut [u8], at: usize, number: u32) -> bool
     requires { ⌜ Opens (now script) o × (at < length (now marks)) ⌝ }
     ensures { λ r. ⌜ r ≡ (eqb (getD (now (marks .entry)) at 0) 1
         && givesKept number (now (script .entry)) o (now (marks .entry)) at (at + 1)) ⌝ }
-    ensures { λ r. ⌜ now (marks .exit) ≡ cond r (cleared (now (marks .entry)) at (at + 1)) (now (marks .entry)) ⌝ }
+    ensures { λ r. ⌜ now (marks .exit) ≡ cond r (marksCleared (now (marks .entry)) at (at + 1)) (now (marks .entry)) ⌝ }
 {
     if lists::byte(marks, at) != 1 {
         return false;
@@ -350,7 +361,7 @@ fn attempt_line(script: &[u8], o: Opened, marks: &mut [u8], at: usize, number: u
 }
 
 // Tries to do without each single line, and tells whether one was cleared.
-fn scan(script: &[u8], o: Opened, marks: &mut [u8], number: u32) -> bool
+fn scan(script: &[u8], o: ScriptHead, marks: &mut [u8], number: u32) -> bool
     requires { ⌜ Opens (now script) o × (length (now script) ≤ length (now marks))
         × (givesKept number (now script) o (now marks) 0 0 ≡ true) ⌝ }
     ensures { λ r. ⌜ Scanned number (now (script .entry)) o (now (marks .entry)) (now (marks .exit)) r ⌝ }
@@ -366,7 +377,7 @@ fn scan(script: &[u8], o: Opened, marks: &mut [u8], number: u32) -> bool
 }
 
 // Scans again until no single line can be left out. What is cleared may make a line idle that a scan has passed.
-fn settle(script: &[u8], o: Opened, marks: &mut [u8], number: u32)
+fn settle(script: &[u8], o: ScriptHead, marks: &mut [u8], number: u32)
     requires { ⌜ Opens (now script) o × (length (now script) ≤ length (now marks))
         × (givesKept number (now script) o (now marks) 0 0 ≡ true) ⌝ }
     ensures { λ _. ⌜ Settled number (now (script .entry)) o (now (marks .exit)) ⌝ }
@@ -375,7 +386,7 @@ fn settle(script: &[u8], o: Opened, marks: &mut [u8], number: u32)
 }
 
 // The marks of a range, where there is one.
-fn attempt_range(script: &[u8], o: Opened, marks: &mut [u8], lo: usize, hi: usize, number: u32)
+fn attempt_range(script: &[u8], o: ScriptHead, marks: &mut [u8], lo: usize, hi: usize, number: u32)
     requires { ⌜ Opens (now script) o × (lo ≤ hi) × (hi ≤ length (now marks)) × (givesKept number (now script) o (now marks) 0 0 ≡ true) ⌝ }
     ensures { λ _. ⌜ givesKept number (now (script .entry)) o (now (marks .exit)) 0 0 ≡ true ⌝ }
 {
@@ -401,7 +412,7 @@ fn attempt_from(
     requires { ⌜ (from ≤ length (now script)) × (hi ≤ length (now marks)) × (length (now words) ≡ wordsSize)
         × (length (now bytes) ≡ bytesSize) × (length (now area) ≡ areaSize) ⌝ }
     ensures { λ _. ⌜ Spared number (now (script .entry)) (now (marks .entry)) from
-        (worldIn (store (now (words .entry)) (now (bytes .entry))) day (now (area .entry))) (now (marks .exit)) ⌝ }
+        (runStateIn (store (now (words .entry)) (now (bytes .entry))) day (now (area .entry))) (now (marks .exit)) ⌝ }
 {
     if hi <= from {
         return;
@@ -443,9 +454,9 @@ fn scan_from(
 )
     requires { ⌜ (first ≤ length (now script)) × (from ≤ length (now script)) × (0 < c) × (length (now script) ≤ length (now marks))
         × (length (now words) ≡ wordsSize) × (length (now bytes) ≡ bytesSize) × (length (now area) ≡ areaSize)
-        × (givesFrom number (now script) (now marks) first (worldIn (store (now words) (now bytes)) start (now area)) ≡ true) ⌝ }
+        × (givesFrom number (now script) (now marks) first (runStateIn (store (now words) (now bytes)) start (now area)) ≡ true) ⌝ }
     ensures { λ _. ⌜ givesFrom number (now (script .entry)) (now (marks .exit)) first
-        (worldIn (store (now (words .entry)) (now (bytes .entry))) start (now (area .entry))) ≡ true ⌝ }
+        (runStateIn (store (now (words .entry)) (now (bytes .entry))) start (now (area .entry))) ≡ true ⌝ }
 {
     let mut day = start;
     let mut at = first;
@@ -465,7 +476,7 @@ fn scan_from(
 }
 
 // The same for a script that opens.
-fn scan_ranges(script: &[u8], o: Opened, marks: &mut [u8], from: usize, c: usize, number: u32)
+fn scan_ranges(script: &[u8], o: ScriptHead, marks: &mut [u8], from: usize, c: usize, number: u32)
     requires { ⌜ Opens (now script) o × (from ≤ length (now script)) × (0 < c) × (length (now script) ≤ length (now marks))
         × (givesKept number (now script) o (now marks) 0 0 ≡ true) ⌝ }
     ensures { λ _. ⌜ givesKept number (now (script .entry)) o (now (marks .exit)) 0 0 ≡ true ⌝ }
@@ -519,7 +530,7 @@ fn tail_start(first: usize, n: usize, t: usize) -> usize
 }
 
 // Ranges of the last t bytes with kept lines, from large to small; then all that stands before these bytes, at once.
-fn thin(script: &[u8], o: Opened, marks: &mut [u8], t: usize, number: u32)
+fn thin(script: &[u8], o: ScriptHead, marks: &mut [u8], t: usize, number: u32)
     requires { ⌜ Opens (now script) o × (length (now script) ≤ length (now marks))
         × (givesKept number (now script) o (now marks) 0 0 ≡ true) ⌝ }
     ensures { λ _. ⌜ givesKept number (now (script .entry)) o (now (marks .exit)) 0 0 ≡ true ⌝ }
@@ -537,7 +548,7 @@ fn thin(script: &[u8], o: Opened, marks: &mut [u8], t: usize, number: u32)
 // The first scan runs all lines, and so clears what is behind the first line that gives the number.
 // Then tails from short to long: lines near the refused one go first, with all that stands before them as it is.
 // Once those are gone that would need it, what stands before them can often go at once.
-fn shorten(script: &[u8], o: Opened, marks: &mut [u8], number: u32)
+fn shorten(script: &[u8], o: ScriptHead, marks: &mut [u8], number: u32)
     requires { ⌜ Opens (now script) o × (length (now script) ≤ length (now marks))
         × (givesKept number (now script) o (now marks) 0 0 ≡ true) ⌝ }
     ensures { λ _. ⌜ givesKept number (now (script .entry)) o (now (marks .exit)) 0 0 ≡ true ⌝ }
@@ -554,7 +565,7 @@ fn shorten(script: &[u8], o: Opened, marks: &mut [u8], number: u32)
 // Marks every line from a place on.
 fn mark_lines(script: &[u8], from: usize, marks: &mut [u8])
     requires { ⌜ (from ≤ length (now script)) × (length (now script) ≤ length (now marks)) ⌝ }
-    ensures { λ _. ⌜ keep (isKept (now (marks .exit)) 0 0) (placed from (split 10 (drop from (now (script .entry)))))
+    ensures { λ _. ⌜ keep (isKept (now (marks .exit)) 0 0) (placedLines from (split 10 (drop from (now (script .entry)))))
         ≡ linesIn (split 10 (drop from (now (script .entry)))) ⌝ }
 {
     let mut at = from;
@@ -591,9 +602,11 @@ fn put_line(script: &[u8], at: usize, e: usize, marks: &[u8], out: &mut [u8], to
 // The kept lines from a place of the script on. Returns the next place of the output.
 fn put_kept(script: &[u8], from: usize, marks: &[u8], out: &mut [u8], to: usize) -> usize
     requires { ⌜ (from ≤ length (now script))
-        × (to + length (joined (keep (isKept (now marks) 0 0) (placed from (split 10 (drop from (now script)))))) ≤ length (now out)) ⌝ }
+        × (to + length (joinedLines (keep (isKept (now marks) 0 0) (placedLines from (split 10 (drop from (now script)))))) ≤
+        length (now out)) ⌝ }
     ensures { λ r. ⌜ Put (now (out .entry)) to
-        (joined (keep (isKept (now (marks .entry)) 0 0) (placed from (split 10 (drop from (now (script .entry))))))) r (now (out .exit)) ⌝ }
+        (joinedLines (keep (isKept (now (marks .entry)) 0 0) (placedLines from (split 10 (drop from (now (script .entry))))))) r
+        (now (out .exit)) ⌝ }
 {
     let mut at = from;
     let mut pos = to;
@@ -616,7 +629,7 @@ fn put_kept(script: &[u8], from: usize, marks: &[u8], out: &mut [u8], to: usize)
 
 // The place behind the first n lines; the script's end where there are fewer.
 fn lines_end(script: &[u8], n: u32) -> usize
-    ensures { λ r. ⌜ r ≡ length (joined (take n (linesIn (split 10 (now (script .entry)))))) ⌝ }
+    ensures { λ r. ⌜ r ≡ length (joinedLines (take n (linesIn (split 10 (now (script .entry)))))) ⌝ }
 {
     let mut at: usize = 0;
     let mut i: u32 = 0;
@@ -639,7 +652,7 @@ fn lines_end(script: &[u8], n: u32) -> usize
 }
 
 // What is kept of a script that opens.
-fn reduce_events(script: &[u8], o: Opened, out: &mut [u8], number: u32) -> Reduction
+fn reduce_events(script: &[u8], o: ScriptHead, out: &mut [u8], number: u32) -> Reduction
     requires { ⌜ Ready (now script) o (now out) × (isDone (o .answer) ≡ true) ⌝ }
     ensures { λ r. ⌜ Answers number (now (script .entry)) (now (out .entry)) r (now (out .exit)) ⌝ }
 {
@@ -663,7 +676,7 @@ fn reduce_events(script: &[u8], o: Opened, out: &mut [u8], number: u32) -> Reduc
 }
 
 // What is kept of a script of which a line before the events is refused.
-fn reduce_head(script: &[u8], o: Opened, out: &mut [u8], number: u32) -> Reduction
+fn reduce_head(script: &[u8], o: ScriptHead, out: &mut [u8], number: u32) -> Reduction
     requires { ⌜ Ready (now script) o (now out) × (isDone (o .answer) ≡ false) ⌝ }
     ensures { λ r. ⌜ Answers number (now (script .entry)) (now (out .entry)) r (now (out .exit)) ⌝ }
 {

@@ -21,10 +21,11 @@ use Rattle.ledger.specs.Lists.{CalledAll, leftBy}
 use Rattle.group.specs.Group.{Group, vacant, isNumber}
 use Rattle.group.specs.Calls.{GroupCall, LoadSite, isCrowded, plainAnswer}
 use Rattle.group.specs.Steps.{nextGroup, afterGroup, runGroup}
-use Rattle.sites.specs.many.Memory.{Memory, Lent, tooFew, groupIn}
-use Rattle.sites.specs.many.Calls.{loadAnswer, groupLoaded, rowsFit, rowsAnswer, groupRows, eventCall, groupAfter, lineAnswer}
+use Rattle.sites.specs.many.Memory.{Memory, Lent, groupTooShort, groupIn}
+use Rattle.sites.specs.many.Calls.{groupLoadAnswer, groupLoaded, rowCountFits, rowsAnswer, groupRows, eventCall, groupAfter}
+use Rattle.sites.specs.many.Calls.{groupLineAnswer}
 use Rattle.sites.specs.many.Calls.{groupAfterLine}
-use Rattle.register.specs.Register.{Lending, standsFor, Made, LoadMade, EventMade, CallOf, Called, Calls, lineCall, groupCall}
+use Rattle.register.specs.Register.{Lending, standsFor, GroupMade, LoadMade, EventMade, CallOf, Called, Calls, lineCall, groupCall}
 use Rattle.register.specs.Register.{accepted}
 
 run-append : (g : Group) (cs ds : List GroupCall) → runGroup g (cs ++ ds) ≡ runGroup (runGroup g cs) ds
@@ -40,14 +41,14 @@ run-one g c false = refl
 
 -- an event
 one-line : (m : Memory) (area : List ℕ) (a : ℕ) (v : Lent) (p : Parsed)
-    → groupAfterLine m area a v p ≡ runGroup (groupIn m area) (cond (isDone (lineAnswer m area a v p)) (lineCall a (v .windows) p) [])
+    → groupAfterLine m area a v p ≡ runGroup (groupIn m area) (cond (isDone (groupLineAnswer m area a v p)) (lineCall a (v .windows) p) [])
 unfolding runGroup groupAfter
-one-line m area a v Malformed = go (isDone (lineAnswer m area a v Malformed))
+one-line m area a v Malformed = go (isDone (groupLineAnswer m area a v Malformed))
   where
     go : (b : Bool) → groupIn m area ≡ runGroup (groupIn m area) (cond b [] [])
     go true = refl
     go false = refl
-one-line m area a v (Good e) = run-one (groupIn m area) (eventCall a (v .windows) e) (isDone (lineAnswer m area a v (Good e)))
+one-line m area a v (Good e) = run-one (groupIn m area) (eventCall a (v .windows) e) (isDone (groupLineAnswer m area a v (Good e)))
 
 -- a load
 module _ (m : Memory) (area : List ℕ) (a : ℕ) (f : Config) (rows : List ℕ) (D : ℕ) (ws : List Window) where
@@ -70,28 +71,29 @@ module _ (m : Memory) (area : List ℕ) (a : ℕ) (f : Config) (rows : List ℕ)
       go false h = skip (isDone plain && true) (nextGroup g c) g g (ap (λ (b : Bool). b && true) h) refl
 
   -- of memory that is long enough it is the call's
-  answer-load : tooFew m ≡ false → loadAnswer m a f (tableFrom rows) D ws ≡ plain
-  unfolding loadAnswer
+  answer-load : groupTooShort m ≡ false → groupLoadAnswer m a f (tableFrom rows) D ws ≡ plain
+  unfolding groupLoadAnswer
   answer-load h = ap (λ (x : Answer). cond (isNumber a) x NoSuchNode) (skip _ _ _ _ h refl)
 
-  no-load : tooFew m ≡ true → isDone (loadAnswer m a f (tableFrom rows) D ws) ≡ false
-  unfolding loadAnswer
+  no-load : groupTooShort m ≡ true → isDone (groupLoadAnswer m a f (tableFrom rows) D ws) ≡ false
+  unfolding groupLoadAnswer
   no-load h = ap (λ (x : Answer). isDone (cond (isNumber a) x NoSuchNode)) (hit _ _ _ h) ∙ go (isNumber a)
     where
       go : (b : Bool) → isDone (cond b NoRoom NoSuchNode) ≡ false
       go true = refl
       go false = refl
 
-  loads : groupLoaded m area a f (tableFrom rows) D ws ≡ cond (isDone (loadAnswer m a f (tableFrom rows) D ws)) (afterGroup g c) g
+  loads : groupLoaded m area a f (tableFrom rows) D ws ≡ cond (isDone (groupLoadAnswer m a f (tableFrom rows) D ws)) (afterGroup g c) g
   unfolding groupLoaded
-  loads = go (tooFew m) refl
+  loads = go (groupTooShort m) refl
     where
-      go : (b : Bool) → tooFew m ≡ b → cond b g (afterGroup g c) ≡ cond (isDone (loadAnswer m a f (tableFrom rows) D ws)) (afterGroup g c) g
+      go : (b : Bool) → groupTooShort m ≡ b → cond b g (afterGroup g c)
+          ≡ cond (isDone (groupLoadAnswer m a f (tableFrom rows) D ws)) (afterGroup g c) g
       go true h = sym (skip _ _ _ _ (no-load h) refl)
       go false h = after-load ∙ ap (λ (x : Answer). cond (isDone x) (afterGroup g c) g) (sym (answer-load h))
 
-  no-rows : isDone (cond (isNumber a) (cond (tooFew m) NoRoom OutOfRange) NoSuchNode) ≡ false
-  no-rows = go (isNumber a) (tooFew m)
+  no-rows : isDone (cond (isNumber a) (cond (groupTooShort m) NoRoom OutOfRange) NoSuchNode) ≡ false
+  no-rows = go (isNumber a) (groupTooShort m)
     where
       go : (b c : Bool) → isDone (cond b (cond c NoRoom OutOfRange) NoSuchNode) ≡ false
       go true true = refl
@@ -100,13 +102,15 @@ module _ (m : Memory) (area : List ℕ) (a : ℕ) (f : Config) (rows : List ℕ)
 
   one-load : groupRows m area a f rows D ws ≡ runGroup g (cond (isDone (rowsAnswer m a f rows D ws)) (c ∷ []) [])
   unfolding groupRows rowsAnswer
-  one-load = go (rowsFit f rows) refl ∙ run-one g c (isDone (rowsAnswer m a f rows D ws))
+  one-load = go (rowCountFits f rows) refl ∙ run-one g c (isDone (rowsAnswer m a f rows D ws))
     where
-      go : (b : Bool) → rowsFit f rows ≡ b → groupRows m area a f rows D ws ≡ cond (isDone (rowsAnswer m a f rows D ws)) (afterGroup g c) g
+      go : (b : Bool) → rowCountFits f rows ≡ b → groupRows m area a f rows D ws
+          ≡ cond (isDone (rowsAnswer m a f rows D ws)) (afterGroup g c) g
       go true h = hit _ _ _ h ∙ loads ∙ ap (λ (x : Answer). cond (isDone x) (afterGroup g c) g) (sym (hit _ _ _ h))
-      go false h = skip (rowsFit f rows) _ g g h refl ∙ sym (skip _ _ _ _ (ap isDone (skip (rowsFit f rows) _ _ _ h refl) ∙ no-rows) refl)
+      go false h = skip (rowCountFits f rows) _ g g h refl
+          ∙ sym (skip _ _ _ _ (ap isDone (skip (rowCountFits f rows) _ _ _ h refl) ∙ no-rows) refl)
 
-pub one : (m : Lending) (c : Made) (n : ℕ) (u : Tally) (l : Lending) → CallOf m c n u l
+pub one : (m : Lending) (c : GroupMade) (n : ℕ) (u : Tally) (l : Lending) → CallOf m c n u l
     → standsFor l ≡ runGroup (standsFor m) (cond (eqb n 0) (groupCall c) [])
 one m (LoadMade a f rows D ws t) n u l r =
     r .group

@@ -19,65 +19,66 @@ use Rattle.site.specs.declared.Event.{Event}
 use Rattle.node.specs.declared.Config.{Config}
 use Rattle.windows.specs.declared.Window.{Window}
 use Rattle.machine.specs.hours.Hours.{Timed, timedAnswer}
-use Rattle.machine.specs.hours.Calls.{Call, TimedWorld, afterCall, runCalls}
+use Rattle.machine.specs.hours.Calls.{Call, TimedState, afterCall, runCalls}
 use Rattle.agreement.specs.daily.Daily.{beginBy}
 use Rattle.tally.specs.Ends.{tallyAt}
 use Rattle.tally.specs.declared.Tally.{Tally}
 use Rattle.lifted.proofs.Theorem.{calls-append}
-use Rattle.machine.specs.turn.Kept.{firstOf}
+use Rattle.machine.specs.turn.Kept.{firstRefusal}
 use Rattle.script.specs.events.Events.{eventAt}
 use Rattle.script.specs.declared.Parsed.{Parsed}
 use Rattle.script.specs.declared.Parsed.the-variants.{Malformed, Good}
 use Rattle.sites.specs.one.Calls.{tableFrom}
-use Rattle.ledger.specs.Lists.{Did, CalledAll, leftBy, Step, stepOf, stepsBy, callsIn}
+use Rattle.ledger.specs.Lists.{Did, CalledAll, leftBy, SiteStep, stepOf, stepsBy, callsIn}
 use Rattle.ledger.proofs.Along.{Along, along-append}
 use Rattle.group.specs.Group.{Group}
 use Rattle.group.specs.Calls.{GroupCall, LoadSite, SiteCall, isCrowded}
 use Rattle.group.specs.Calls as group
 use Rattle.group.specs.Steps.{afterGroup, runGroup}
-use Rattle.group.specs.Alone.{Story, toldBy}
+use Rattle.group.specs.Alone.{Story, storyAfter}
 use Rattle.group.proofs.Ground.{Mirror}
 use Rattle.group.proofs.Stories.{Backed, Fine, aside, tells, after-fine}
 use Rattle.sites.specs.many.Memory.{Lent}
-use Rattle.sites.specs.many.Calls.{eventCall, rowsAnswer, lineAnswer, eventAnswer, tallyAfter, tallyAfterLine}
-use Rattle.register.specs.Register.{Lending, standsFor, timedAt, siteAt, Made, LoadMade, EventMade, numberOf, CallOf, Called, Calls}
-use Rattle.register.specs.Register.{lineCall, stepMade, stepFor, stepsOf, isLoad, loadsAgain, Own, ownOf, answersOf}
+use Rattle.sites.specs.many.Calls.{eventCall, rowsAnswer, groupLineAnswer, groupEventAnswer, groupTallyAfter, tallyAfterLine}
+use Rattle.register.specs.Register.{Lending, standsFor, timedAt, siteAt, GroupMade, LoadMade, EventMade, madeNumber, CallOf, Called}
+use Rattle.register.specs.Register.{Calls}
+use Rattle.register.specs.Register.{lineCall, stepMade, stepFor, stepsOf, isLoad, loadsAgain, OwnCall, ownMade, answersOf}
 use Rattle.register.proofs.Calls.{one}
 use Rattle.register.proofs.Seats.{here, plainEvent, plainLine, plainRows, short, line-same, event-same, rows-same, event-done}
 use Rattle.register.proofs.Seats.{event-tally}
 
 -- The calls of a number, alone: the number of each answer, and the calls of the site that are accepted
 
-abbrev plainMade : TimedWorld → Made → Answer
+abbrev plainMade : TimedState → GroupMade → Answer
 plainMade w (LoadMade b f rows D ws t) = plainRows f rows D ws
 plainMade w (EventMade b event node with v) = plainLine w v (eventAt event node with)
 
-abbrev pub loneNumber : TimedWorld → Own → ℕ
+abbrev pub loneNumber : TimedState → OwnCall → ℕ
 loneNumber w o = cond (o .crowded) (number Crowded) (number (plainMade w (o .call)))
 
 abbrev parsedCall : List Window → Parsed → List Call
 parsedCall ws Malformed = []
 parsedCall ws (Good e) = record { event = e; windows = ws } ∷ []
 
-abbrev madeCall : Made → List Call
+abbrev madeCall : GroupMade → List Call
 madeCall (LoadMade b f rows D ws t) = []
 madeCall (EventMade b event node with v) = parsedCall (v .windows) (eventAt event node with)
 
-abbrev callsBy : ℕ → Made → List Call
+abbrev callsBy : ℕ → GroupMade → List Call
 callsBy n c = cond (eqb n 0) (madeCall c) []
 
-abbrev loneNext : TimedWorld → Own → TimedWorld
+abbrev loneNext : TimedState → OwnCall → TimedState
 loneNext w o = runCalls w (callsBy (loneNumber w o) (o .call))
 
-unfoldable pub lone : TimedWorld → List Own → List ℕ
-lone w [] = []
-lone w (o ∷ os) = loneNumber w o ∷ lone (loneNext w o) os
+unfoldable pub oneSite : TimedState → List OwnCall → List ℕ
+oneSite w [] = []
+oneSite w (o ∷ os) = loneNumber w o ∷ oneSite (loneNext w o) os
 
-unfoldable pub loneCalls : TimedWorld → List Own → List Call
+unfoldable pub loneCalls : TimedState → List OwnCall → List Call
 loneCalls w [] = []
 loneCalls w (o ∷ os) = callsBy (loneNumber w o) (o .call) ++ loneCalls (loneNext w o) os
 
-pub calls-of : (xs ys : List Step) → callsIn (xs ++ ys) ≡ callsIn xs ++ callsIn ys
+pub calls-of : (xs ys : List SiteStep) → callsIn (xs ++ ys) ≡ callsIn xs ++ callsIn ys
 calls-of [] ys = refl
 calls-of (x ∷ xs) ys = ap (λ (l : List Call). x .call ∷ l) (calls-of xs ys)
 
@@ -89,7 +90,7 @@ told n z h = go (eqb n (number Crowded)) refl
     go true q = eqb-true n (number Crowded) q
     go false q = h
 
-told-short : (n : ℕ) (z : Answer) (c : Bool) → n ≡ number (firstOf z (cond c Crowded Done))
+told-short : (n : ℕ) (z : Answer) (c : Bool) → n ≡ number (firstRefusal z (cond c Crowded Done))
     → n ≡ cond (eqb n (number Crowded)) (number Crowded) (number z)
 told-short n z c h = go (eqb n (number Crowded)) refl (isDone z) refl c refl
   where
@@ -103,7 +104,7 @@ told-short n z c h = go (eqb n (number Crowded)) refl (isDone z) refl c refl
     go false q false p y r = h ∙ ap number (skip (isDone z) (cond c Crowded Done) z z p refl)
 
 -- what an accepted answer says
-both-done : (z : Answer) (c : Bool) → isDone (firstOf z (cond c Crowded Done)) ≡ true → (isDone z ≡ true) × (c ≡ false)
+both-done : (z : Answer) (c : Bool) → isDone (firstRefusal z (cond c Crowded Done)) ≡ true → (isDone z ≡ true) × (c ≡ false)
 both-done z c h = go (isDone z) refl c refl
   where
     go : (x : Bool) → isDone z ≡ x → (y : Bool) → c ≡ y → (isDone z ≡ true) × (c ≡ false)
@@ -115,11 +116,11 @@ module _ (own : List ℕ) (long : areaSize ≤ length own) (a : ℕ) (f : Config
   abbrev st : List Call → Story
   st cs = record { config = f; table = tableFrom rows; day = D; windows = ws; calls = cs }
 
-  abbrev at : List Call → TimedWorld
+  abbrev at : List Call → TimedState
   at cs = runCalls (beginBy f (tableFrom rows) D ws own) cs
 
   -- the group and the number's site behind a call that makes the steps xs
-  record Moved (h : Group) (cs : List Call) (xs : List Step) : Type 0 where
+  record Moved (h : Group) (cs : List Call) (xs : List SiteStep) : Type 0 where
     fine : Fine own h
     backed : Backed own h a (st (cs ++ callsIn xs))
     along : Along (at cs) xs
@@ -134,7 +135,7 @@ module _ (own : List ℕ) (long : areaSize ≤ length own) (a : ℕ) (f : Config
         along = tt;
       }
 
-  other : (g h : Group) (cs : List Call) (c : GroupCall) → Fine own g → Backed own g a (st cs) → a ≢ group.numberOf c → h ≡ afterGroup g c
+  other : (g h : Group) (cs : List Call) (c : GroupCall) → Fine own g → Backed own g a (st cs) → a ≢ group.callNumber c → h ≡ afterGroup g c
       → Moved h cs []
   other g h cs c F B z e = still (afterGroup g c) h cs (after-fine own long g F c) (aside own long g F c a (st cs) z B) e
 
@@ -143,17 +144,17 @@ module _ (own : List ℕ) (long : areaSize ≤ length own) (a : ℕ) (f : Config
     abbrev x : List ℕ
     x = at cs .area
 
-    abbrev w : TimedWorld
+    abbrev w : TimedState
     w = record { timed = timedAt a m; area = x }
 
-    world-is : w ≡ at cs
-    world-is = λ i. record { timed = sym (here (m .memory) (m .area) a (at cs .timed) (B .mirror .seat) .timed) i; area = x }
+    state-is : w ≡ at cs
+    state-is = λ i. record { timed = sym (here (m .memory) (m .area) a (at cs .timed) (B .mirror .siteSlot) .timed) i; area = x }
 
     pub mirror : Mirror (standsFor m) a w
-    mirror = subst (Mirror (standsFor m) a) (sym world-is) (B .mirror)
+    mirror = subst (Mirror (standsFor m) a) (sym state-is) (B .mirror)
 
     -- an accepted event of the number
-    module _ (v : Lent) (e : Event) (h : isDone (eventAnswer (m .memory) (m .area) a v e) ≡ true) where
+    module _ (v : Lent) (e : Event) (h : isDone (groupEventAnswer (m .memory) (m .area) a v e) ≡ true) where
       abbrev call : Call
       call = record { event = e; windows = v .windows }
 
@@ -161,7 +162,8 @@ module _ (own : List ℕ) (long : areaSize ≤ length own) (a : ℕ) (f : Config
       done = both-done (plainEvent w v e) _ (sym (ap isDone (event-same (m .memory) (m .area) a x (F .ground) mirror v e)) ∙ h)
 
       next : Backed own (afterGroup (standsFor m) (SiteCall a call)) a (st (cs ++ (call ∷ [])))
-      next = subst (λ (b : Bool). Backed own (afterGroup (standsFor m) (SiteCall a call)) a (toldBy (st cs) b (SiteCall a call))) (done .1)
+      next = subst (λ (b : Bool). Backed own (afterGroup (standsFor m) (SiteCall a call)) a
+          (storyAfter (st cs) b (SiteCall a call))) (done .1)
           (tells own long (standsFor m) F (SiteCall a call) (st cs) B)
 
       more : at (cs ++ (call ∷ [])) ≡ afterCall (at cs) call
@@ -169,25 +171,25 @@ module _ (own : List ℕ) (long : areaSize ≤ length own) (a : ℕ) (f : Config
       more = calls-append (beginBy f (tableFrom rows) D ws own) cs (call ∷ [])
 
       event : (u : Tally) (l : Lending) → standsFor l ≡ afterGroup (standsFor m) (SiteCall a call)
-          → u ≡ tallyAfter (m .memory) (m .area) a v e
+          → u ≡ groupTallyAfter (m .memory) (m .area) a v e
           → Moved (standsFor l) cs (stepOf (Good e) (v .windows) (siteAt a m) (siteAt a l) (v .tally) u)
       unfolding Along
       event u l q k =
           let B′ : Backed own (standsFor l) a (st (cs ++ (call ∷ []))) = subst (λ (y : Group). Backed own y a (st (cs ++ (call ∷ []))))
           (sym q) next in
-          let r : afterCall (at cs) call .timed ≡ timedAt a l = ap (λ (y : TimedWorld). y .timed) (sym more)
-          ∙ here (l .memory) (l .area) a _ (B′ .mirror .seat) .timed in
+          let r : afterCall (at cs) call .timed ≡ timedAt a l = ap (λ (y : TimedState). y .timed) (sym more)
+          ∙ here (l .memory) (l .area) a _ (B′ .mirror .siteSlot) .timed in
           record {
             fine = subst (Fine own) (sym q) (after-fine own long (standsFor m) F (SiteCall a call));
             backed = B′;
             along = (
               record {
-                before = ap (λ (y : TimedWorld). y .timed .site) world-is;
+                before = ap (λ (y : TimedState). y .timed .site) state-is;
                 behind = ap (λ (y : Timed). y .site) (sym r);
-                done = subst (λ (y : TimedWorld). isDone (timedAnswer (y .timed) (y .area) (v .windows) e) ≡ true) world-is
+                done = subst (λ (y : TimedState). isDone (timedAnswer (y .timed) (y .area) (v .windows) e) ≡ true) state-is
                     (event-done (m .memory) (m .area) a x (F .ground) mirror v e (done .0));
                 tally = k ∙ event-tally (m .memory) (m .area) a x (F .ground) mirror v e (done .0) h
-                    ∙ ap (λ (y : TimedWorld). cond (isEnd e) (tallyAt (afterCall y call .timed .site) (v .tally)) (v .tally)) world-is
+                    ∙ ap (λ (y : TimedState). cond (isEnd e) (tallyAt (afterCall y call .timed .site) (v .tally)) (v .tally)) state-is
                     ∙ ap (λ (y : Timed). cond (isEnd e) (tallyAt (y .site) (v .tally)) (v .tally)) r;
               },
               tt,
@@ -195,17 +197,17 @@ module _ (own : List ℕ) (long : areaSize ≤ length own) (a : ℕ) (f : Config
           }
 
     -- an event of any number
-    line : (b : ℕ) (v : Lent) (p : Parsed) (n : ℕ) (u : Tally) (l : Lending) → n ≡ number (lineAnswer (m .memory) (m .area) b v p)
+    line : (b : ℕ) (v : Lent) (p : Parsed) (n : ℕ) (u : Tally) (l : Lending) → n ≡ number (groupLineAnswer (m .memory) (m .area) b v p)
         → standsFor l ≡ runGroup (standsFor m) (cond (eqb n 0) (lineCall b (v .windows) p) [])
         → u ≡ tallyAfterLine (m .memory) (m .area) b v p
         → Moved (standsFor l) cs (cond (eqb n 0) (cond (eqb b a) (stepOf p (v .windows) (siteAt a m) (siteAt a l) (v .tally) u) []) [])
     unfolding runGroup
     line b v p n u l h q k = go (eqb n 0) refl p h q k
       where
-        steps : Parsed → List Step
+        steps : Parsed → List SiteStep
         steps p = cond (eqb b a) (stepOf p (v .windows) (siteAt a m) (siteAt a l) (v .tally) u) []
 
-        go : (z : Bool) → eqb n 0 ≡ z → (p : Parsed) → n ≡ number (lineAnswer (m .memory) (m .area) b v p)
+        go : (z : Bool) → eqb n 0 ≡ z → (p : Parsed) → n ≡ number (groupLineAnswer (m .memory) (m .area) b v p)
             → standsFor l ≡ runGroup (standsFor m) (cond (eqb n 0) (lineCall b (v .windows) p) [])
             → u ≡ tallyAfterLine (m .memory) (m .area) b v p
             → Moved (standsFor l) cs (cond z (cond (eqb b a) (stepOf p (v .windows) (siteAt a m) (siteAt a l) (v .tally) u) []) [])
@@ -230,12 +232,13 @@ module _ (own : List ℕ) (long : areaSize ≤ length own) (a : ℕ) (f : Config
 
             Own-event : ℕ → Type 0
             Own-event j =
-                n ≡ number (eventAnswer (m .memory) (m .area) j v e) → standsFor l ≡ afterGroup (standsFor m) (eventCall j (v .windows) e)
-                → u ≡ tallyAfter (m .memory) (m .area) j v e
+                n ≡ number (groupEventAnswer (m .memory) (m .area) j v e) → standsFor l
+                ≡ afterGroup (standsFor m) (eventCall j (v .windows) e)
+                → u ≡ groupTallyAfter (m .memory) (m .area) j v e
                 → Moved (standsFor l) cs (stepOf (Good e) (v .windows) (siteAt a m) (siteAt a l) (v .tally) u)
 
     -- any call
-    any : (c : Made) (n : ℕ) (u : Tally) (l : Lending) → CallOf m c n u l → (eqb n 0 && isLoad a c) ≡ false
+    any : (c : GroupMade) (n : ℕ) (u : Tally) (l : Lending) → CallOf m c n u l → (eqb n 0 && isLoad a c) ≡ false
         → Moved (standsFor l) cs (cond (eqb n 0) (stepMade a m c u l) [])
     unfolding runGroup
     any (LoadMade b f′ rows′ D′ ws′ t) n u l r h = go (eqb n 0) refl
@@ -257,7 +260,7 @@ module _ (own : List ℕ) (long : areaSize ≤ length own) (a : ℕ) (f : Config
         line b v (eventAt event node with) n u l (r .answer) (one m (EventMade b event node with v) n u l r) (r .tally)
 
     -- its answer, where it is of the number
-    own-answer : (c : Made) (n : ℕ) (u : Tally) (l : Lending) → CallOf m c n u l → numberOf c ≡ a
+    own-answer : (c : GroupMade) (n : ℕ) (u : Tally) (l : Lending) → CallOf m c n u l → madeNumber c ≡ a
         → n ≡ loneNumber (at cs) (record { call = c; crowded = eqb n (number Crowded) })
     own-answer (LoadMade b f′ rows′ D′ ws′ t) n u l r e =
         told n (plainRows f′ rows′ D′ ws′)
@@ -265,15 +268,15 @@ module _ (own : List ℕ) (long : areaSize ≤ length own) (a : ℕ) (f : Config
         ∙ rows-same (m .memory) (m .area) a x (F .ground) mirror f′ rows′ D′ ws′))
     own-answer (EventMade b event node with v) n u l r e =
         told-short n (plainLine w v p) (short (standsFor m) a v p)
-        (r .answer ∙ ap number (ap (λ (j : ℕ). lineAnswer (m .memory) (m .area) j v p) e
+        (r .answer ∙ ap number (ap (λ (j : ℕ). groupLineAnswer (m .memory) (m .area) j v p) e
         ∙ line-same (m .memory) (m .area) a x (F .ground) mirror v p))
-        ∙ ap (λ (y : TimedWorld). cond (eqb n (number Crowded)) (number Crowded) (number (plainLine y v p))) world-is
+        ∙ ap (λ (y : TimedState). cond (eqb n (number Crowded)) (number Crowded) (number (plainLine y v p))) state-is
       where
         p : Parsed
         p = eventAt event node with
 
   -- the calls of the steps
-  own-calls : (m : Lending) (c : Made) (n : ℕ) (u : Tally) (l : Lending) → numberOf c ≡ a
+  own-calls : (m : Lending) (c : GroupMade) (n : ℕ) (u : Tally) (l : Lending) → madeNumber c ≡ a
       → callsIn (cond (eqb n 0) (stepMade a m c u l) []) ≡ callsBy n c
   own-calls m (LoadMade b f′ rows′ D′ ws′ t) n u l e = go (eqb n 0)
     where
@@ -294,17 +297,18 @@ module _ (own : List ℕ) (long : areaSize ≤ length own) (a : ℕ) (f : Config
       go false Malformed = refl
       go false (Good e) = refl
 
-  other-steps : (m : Lending) (c : Made) (n : ℕ) (u : Tally) (l : Lending) → numberOf c ≢ a → cond (eqb n 0) (stepMade a m c u l) [] ≡ []
+  other-steps : (m : Lending) (c : GroupMade) (n : ℕ) (u : Tally) (l : Lending) → madeNumber c ≢ a
+      → cond (eqb n 0) (stepMade a m c u l) [] ≡ []
   other-steps m (LoadMade b f′ rows′ D′ ws′ t) n u l e = go (eqb n 0)
     where
-      go : (z : Bool) → _≡_ {A = List Step} (cond z [] []) []
+      go : (z : Bool) → _≡_ {A = List SiteStep} (cond z [] []) []
       go true = refl
       go false = refl
   other-steps m (EventMade b event node with v) n u l e =
       ap (λ (z : Bool). cond (eqb n 0) (cond z (stepOf (eventAt event node with) (v .windows) (siteAt a m) (siteAt a l) (v .tally) u) [])
       []) (ne-eqb b a e) ∙ go (eqb n 0)
     where
-      go : (z : Bool) → _≡_ {A = List Step} (cond z [] []) []
+      go : (z : Bool) → _≡_ {A = List SiteStep} (cond z [] []) []
       go true = refl
       go false = refl
 
@@ -313,20 +317,20 @@ module _ (own : List ℕ) (long : areaSize ≤ length own) (a : ℕ) (f : Config
     pub fine : Fine own (standsFor (leftBy m es))
     pub backed : Backed own (standsFor (leftBy m es)) a (st (cs ++ callsIn (stepsOf a m es)))
     pub along : Along (at cs) (stepsOf a m es)
-    pub answers : answersOf a es ≡ lone (at cs) (ownOf a es)
-    pub calls : callsIn (stepsOf a m es) ≡ loneCalls (at cs) (ownOf a es)
+    pub answers : answersOf a es ≡ oneSite (at cs) (ownMade a es)
+    pub calls : callsIn (stepsOf a m es) ≡ loneCalls (at cs) (ownMade a es)
 
   -- one call, and the others behind it
-  module _ (m : Lending) (d : Did Made Lending) (es : Calls) (cs : List Call) (F : Fine own (standsFor m))
+  module _ (m : Lending) (d : Did GroupMade Lending) (es : Calls) (cs : List Call) (F : Fine own (standsFor m))
       (B : Backed own (standsFor m) a (st cs))
       (r : Called m d) (q : (eqb (d .answer) 0 && isLoad a (d .call)) ≡ false) where
-    abbrev o : Own
+    abbrev o : OwnCall
     o = record { call = d .call; crowded = eqb (d .answer) (number Crowded) }
 
-    abbrev xs : List Step
+    abbrev xs : List SiteStep
     xs = cond (eqb (d .answer) 0) (stepFor a m d) []
 
-    abbrev ss : List Step
+    abbrev ss : List SiteStep
     ss = stepsOf a (d .left) es
 
     moved : Moved (standsFor (d .left)) cs xs
@@ -335,9 +339,9 @@ module _ (own : List ℕ) (long : areaSize ≤ length own) (a : ℕ) (f : Config
     next-is : at (cs ++ callsIn xs) ≡ runCalls (at cs) (callsIn xs)
     next-is = calls-append (beginBy f (tableFrom rows) D ws own) cs (callsIn xs)
 
-    module _ (e : numberOf (d .call) ≡ a) where
-      mine : eqb (numberOf (d .call)) a ≡ true
-      mine = eq-eqb (numberOf (d .call)) a e
+    module _ (e : madeNumber (d .call) ≡ a) where
+      mine : eqb (madeNumber (d .call)) a ≡ true
+      mine = eq-eqb (madeNumber (d .call)) a e
 
       its-answer : d .answer ≡ loneNumber (at cs) o
       its-answer = own-answer m cs F B (d .call) (d .answer) (d .tally) (d .left) r e
@@ -348,47 +352,47 @@ module _ (own : List ℕ) (long : areaSize ≤ length own) (a : ℕ) (f : Config
       next-own : at (cs ++ callsIn xs) ≡ loneNext (at cs) o
       next-own = next-is ∙ ap (runCalls (at cs)) its-calls
 
-    module _ (e : numberOf (d .call) ≢ a) where
-      not-mine : eqb (numberOf (d .call)) a ≡ false
-      not-mine = ne-eqb (numberOf (d .call)) a e
+    module _ (e : madeNumber (d .call) ≢ a) where
+      not-mine : eqb (madeNumber (d .call)) a ≡ false
+      not-mine = ne-eqb (madeNumber (d .call)) a e
 
       no-steps : xs ≡ []
       no-steps = other-steps m (d .call) (d .answer) (d .tally) (d .left) e
 
       next-other : at (cs ++ callsIn xs) ≡ at cs
-      next-other = ap (λ (l : List Step). at (cs ++ callsIn l)) no-steps ∙ ap at (append-nil cs)
+      next-other = ap (λ (l : List SiteStep). at (cs ++ callsIn l)) no-steps ∙ ap at (append-nil cs)
 
     go-on : Goes (d .left) es (cs ++ callsIn xs) → Goes m (d ∷ es) cs
-    unfolding leftBy stepsBy answersOf ownOf lone loneCalls
+    unfolding leftBy stepsBy answersOf ownMade oneSite loneCalls
     go-on N =
         record {
           fine = N .fine;
           backed = subst (λ (x : List Call). Backed own (standsFor (leftBy (d .left) es)) a (st x))
               (append-assoc cs (callsIn xs) (callsIn ss) ∙ ap (λ (y : List Call). cs ++ y) (sym (calls-of xs ss))) (N .backed);
-          along = along-append (at cs) xs ss (moved .along) (subst (λ (y : TimedWorld). Along y ss) next-is (N .along));
-          answers = same-or-not (numberOf (d .call)) a
+          along = along-append (at cs) xs ss (moved .along) (subst (λ (y : TimedState). Along y ss) next-is (N .along));
+          answers = same-or-not (madeNumber (d .call)) a
               (λ e.
               ap (λ (l : List ℕ). l ++ answersOf a es) (hit _ (d .answer ∷ []) [] (mine e))
-              ∙ (λ i. its-answer e i ∷ (N .answers ∙ ap (λ (y : TimedWorld). lone y (ownOf a es)) (next-own e)) i)
-              ∙ ap (λ (l : List Own). lone (at cs) (l ++ ownOf a es)) (sym (hit _ (o ∷ []) [] (mine e))))
+              ∙ (λ i. its-answer e i ∷ (N .answers ∙ ap (λ (y : TimedState). oneSite y (ownMade a es)) (next-own e)) i)
+              ∙ ap (λ (l : List OwnCall). oneSite (at cs) (l ++ ownMade a es)) (sym (hit _ (o ∷ []) [] (mine e))))
               (λ e.
               ap (λ (l : List ℕ). l ++ answersOf a es) (skip _ (d .answer ∷ []) [] [] (not-mine e) refl)
-              ∙ N .answers ∙ ap (λ (y : TimedWorld). lone y (ownOf a es)) (next-other e)
-              ∙ ap (λ (l : List Own). lone (at cs) (l ++ ownOf a es)) (sym (skip _ (o ∷ []) [] [] (not-mine e) refl)));
-          calls = calls-of xs ss ∙ same-or-not (numberOf (d .call)) a
+              ∙ N .answers ∙ ap (λ (y : TimedState). oneSite y (ownMade a es)) (next-other e)
+              ∙ ap (λ (l : List OwnCall). oneSite (at cs) (l ++ ownMade a es)) (sym (skip _ (o ∷ []) [] [] (not-mine e) refl)));
+          calls = calls-of xs ss ∙ same-or-not (madeNumber (d .call)) a
               (λ e.
-              (λ i. its-calls e i ++ (N .calls ∙ ap (λ (y : TimedWorld). loneCalls y (ownOf a es)) (next-own e)) i)
-              ∙ ap (λ (l : List Own). loneCalls (at cs) (l ++ ownOf a es)) (sym (hit _ (o ∷ []) [] (mine e))))
+              (λ i. its-calls e i ++ (N .calls ∙ ap (λ (y : TimedState). loneCalls y (ownMade a es)) (next-own e)) i)
+              ∙ ap (λ (l : List OwnCall). loneCalls (at cs) (l ++ ownMade a es)) (sym (hit _ (o ∷ []) [] (mine e))))
               (λ e.
-              ap (λ (l : List Step). callsIn l ++ callsIn ss) (no-steps e)
-              ∙ N .calls ∙ ap (λ (y : TimedWorld). loneCalls y (ownOf a es)) (next-other e)
-              ∙ ap (λ (l : List Own). loneCalls (at cs) (l ++ ownOf a es)) (sym (skip _ (o ∷ []) [] [] (not-mine e) refl)));
+              ap (λ (l : List SiteStep). callsIn l ++ callsIn ss) (no-steps e)
+              ∙ N .calls ∙ ap (λ (y : TimedState). loneCalls y (ownMade a es)) (next-other e)
+              ∙ ap (λ (l : List OwnCall). loneCalls (at cs) (l ++ ownMade a es)) (sym (skip _ (o ∷ []) [] [] (not-mine e) refl)));
         }
 
   pub goes : (m : Lending) (es : Calls) (cs : List Call) → Fine own (standsFor m) → Backed own (standsFor m) a (st cs)
       → CalledAll Called m es
       → loadsAgain a es ≡ false → Goes m es cs
-  unfolding CalledAll leftBy stepsBy loadsAgain Along answersOf ownOf lone loneCalls
+  unfolding CalledAll leftBy stepsBy loadsAgain Along answersOf ownMade oneSite loneCalls
   goes m [] cs F B r q =
       record {
         fine = F;

@@ -21,10 +21,10 @@ use Rattle.site.specs.declared.Table.{Table}
 use Rattle.traces.specs.Past.{Past, noPast}
 use Rattle.windows.specs.declared.Window.{Window}
 use Rattle.machine.specs.hours.Hours.{Timed, givenTable, timedLoadAnswer, loadedTimed}
-use Rattle.machine.specs.hours.Calls.{Call, TimedWorld, runCalls}
+use Rattle.machine.specs.hours.Calls.{Call, TimedState, runCalls}
 use Rattle.machine.proofs.hours.Laws.{loaded-site}
 use Rattle.agreement.specs.daily.Daily.{beginBy, finalBy, eventsOfAll, traceCalls}
-use Rattle.tally.specs.Counting.{first}
+use Rattle.tally.specs.Counting.{firstTally}
 use Rattle.tally.specs.declared.Tally.{Tally}
 use Rattle.agreement.proofs.accounts.Slots.{Sums, sums-loaded}
 use Rattle.calm.specs.Calm.{liveIn, liveSet, Ready, Calm, whole, Risen}
@@ -33,34 +33,34 @@ use Rattle.lifted.specs.Lifted as claims
 use Rattle.lifted.proofs.Theorem.{lifted}
 use Rattle.sites.specs.one.Calls.{tableFrom, nodeBytes, shownSize}
 use Rattle.sites.specs.one.Memory as lent
-use Rattle.ledger.specs.Lists.{CalledAll, leftBy, Step, stepsBy, callsIn, pastBy, Threaded, ClaimsOnce, Accounted}
+use Rattle.ledger.specs.Lists.{CalledAll, leftBy, SiteStep, stepsBy, callsIn, pastBy, Threaded, ClaimsOnce, Accounted}
 use Rattle.ledger.specs.Ledger as site
 use Rattle.ledger.proofs.Along.{Along, along-past, accounted}
 use Rattle.ledger.proofs.Theorem.{ledger, claims-once}
-use Rattle.group.specs.Group.{Taken, Group, vacant, isNumber, seatOf}
+use Rattle.group.specs.Group.{Taken, Group, vacant, isNumber, siteSlotOf}
 use Rattle.group.specs.Calls.{GroupCall, LoadSite, plainAnswer}
 use Rattle.group.specs.Steps.{afterGroup, runGroup}
 use Rattle.group.specs.Fit.{Fit}
 use Rattle.group.specs.Alone.{loadedGroup, loadedStory}
 use Rattle.group.proofs.Stories.{Backed, Fine, after-fine}
 use Rattle.group.proofs.Theorem.{vacant-fine, run-fine, begins, several}
-use Rattle.sites.specs.many.Memory.{Memory, tooFew}
-use Rattle.sites.specs.many.Calls.{loadAnswer, rowsFit, rowsAnswer, tallyLoaded, nodeAnswer, nodeOut}
+use Rattle.sites.specs.many.Memory.{Memory, groupTooShort}
+use Rattle.sites.specs.many.Calls.{groupLoadAnswer, rowCountFits, rowsAnswer, tallyLoaded, groupNodeAnswer, nodeOut}
 use Rattle.register.specs.Register.{Lending, standsFor, timedAt, siteAt, LoadMade, Called, Calls, accepted, stepFor, stepsOf, isLoad}
 use Rattle.register.specs.Register.{loadsAgain}
-use Rattle.register.specs.Register.{Run, leftIn, Loaded, siteIn, stepsIn, pastIn, aloneIn, worldIn, InGroup, further, ownOf}
+use Rattle.register.specs.Register.{Run, leftIn, Loaded, siteOfRun, stepsIn, pastIn, aloneIn, runStateIn, InGroup, further, ownMade}
 use Rattle.register.specs.Register.{answersOf}
 use Rattle.register.specs.Register.{SameCalls, Alike, Register}
 use Rattle.register.proofs.Calls.{one, stands, final}
 use Rattle.register.proofs.Seats.{here, listed, shown}
-use Rattle.register.proofs.Numbers.{calls-of, lone, loneCalls, mirror, Goes, goes}
+use Rattle.register.proofs.Numbers.{calls-of, oneSite, loneCalls, mirror, Goes, goes}
 
 -- a load that is accepted
 module _ (m : Memory) (a : ℕ) (f : Config) (rows : List ℕ) (D : ℕ) (ws : List Window) (h : isDone (rowsAnswer m a f rows D ws) ≡ true)
   where
     load-plain : isDone (cond (isNumber a) (timedLoadAnswer f (tableFrom rows) D ws) NoSuchNode) ≡ true
-    unfolding rowsAnswer loadAnswer
-    load-plain = go (rowsFit f rows) (isNumber a) (tooFew m) h
+    unfolding rowsAnswer groupLoadAnswer
+    load-plain = go (rowCountFits f rows) (isNumber a) (groupTooShort m) h
       where
         z : Answer
         z = timedLoadAnswer f (tableFrom rows) D ws
@@ -92,7 +92,7 @@ module _ (a : ℕ) where
   steps-append m [] ys = refl
   steps-append m (x ∷ xs) ys =
       let ss = cond (eqb (x .answer) 0) (stepFor a m x) [] in
-      ap (λ (l : List Step). ss ++ l) (steps-append (x .left) xs ys)
+      ap (λ (l : List SiteStep). ss ++ l) (steps-append (x .left) xs ys)
       ∙ sym (append-assoc ss (stepsOf a (x .left) xs) (stepsOf a (leftBy (x .left) xs) ys))
 
   again-front : (xs ys : Calls) → loadsAgain a (xs ++ ys) ≡ false → loadsAgain a xs ≡ false
@@ -122,7 +122,7 @@ module _ (r : Run) (L : Loaded r) (own : List ℕ) (long : areaSize ≤ length o
   abbrev cs : List Call
   cs = callsIn (stepsIn r)
 
-  abbrev w : TimedWorld
+  abbrev w : TimedState
   w = beginBy f t D ws own
 
   abbrev area : List ℕ
@@ -160,19 +160,19 @@ module _ (r : Run) (L : Loaded r) (own : List ℕ) (long : areaSize ≤ length o
   loads : timedLoadAnswer f t D ws ≡ Done
   loads = backed .loads
 
-  seat : seatOf (standsFor (leftIn r)) a ≡ Taken (aloneIn r own .timed)
-  seat = went .backed .mirror .seat
+  siteSlot : siteSlotOf (standsFor (leftIn r)) a ≡ Taken (aloneIn r own .timed)
+  siteSlot = went .backed .mirror .siteSlot
 
   alone : timedAt a (leftIn r) ≡ aloneIn r own .timed
-  alone = sym (here (leftIn r .memory) (leftIn r .area) a (aloneIn r own .timed) seat .timed)
+  alone = sym (here (leftIn r .memory) (leftIn r .area) a (aloneIn r own .timed) siteSlot .timed)
 
-  seated : seatOf (standsFor (leftIn r)) a ≡ Taken (timedAt a (leftIn r))
-  seated = seat ∙ ap Taken (sym alone)
+  siteSlotTaken : siteSlotOf (standsFor (leftIn r)) a ≡ Taken (timedAt a (leftIn r))
+  siteSlotTaken = siteSlot ∙ ap Taken (sym alone)
 
   -- as it was loaded
   begun : siteAt a (r .load .left) ≡ loadedTimed f t D ws .site
   unfolding runCalls
-  begun = sym (ap (λ (x : Timed). x .site) (here (r .load .left .memory) (r .load .left .area) a _ (backed .mirror .seat) .timed))
+  begun = sym (ap (λ (x : Timed). x .site) (here (r .load .left .memory) (r .load .left .area) a _ (backed .mirror .siteSlot) .timed))
 
   along : Along w (stepsIn r)
   unfolding runCalls
@@ -181,9 +181,9 @@ module _ (r : Run) (L : Loaded r) (own : List ℕ) (long : areaSize ≤ length o
   past : pastIn r ≡ claims.pastBy f t D ws own cs
   past = along-past (noPast (siteAt a (r .load .left))) w (stepsIn r) along ∙ ap (λ (s : Site). traceCalls (noPast s) w cs) begun
 
-  in-group : (P : Claim) → Everywhere P → P f (worldIn r own) (pastIn r)
+  in-group : (P : Claim) → Everywhere P → P f (runStateIn r own) (pastIn r)
   in-group P A =
-      subst (P f (worldIn r own)) (sym past)
+      subst (P f (runStateIn r own)) (sym past)
       (subst (λ (x : Timed). P f (record { site = x .site; area = aloneIn r own .area }) (claims.pastBy f t D ws own cs)) (sym alone)
       (A .calls f t D ws loads own cs))
 
@@ -191,23 +191,23 @@ module _ (r : Run) (L : Loaded r) (own : List ℕ) (long : areaSize ≤ length o
   unfolding tallyLoaded
   summed c =
       let e : siteAt a (r .load .left) ≡ loadedSite f (givenTable ws t) = begun ∙ loaded-site f t D ws loads in
-      let u : r .load .tally ≡ first = L .load .tally ∙ hit _ _ _ load-done in
-      accounted (siteAt a (r .load .left)) (subst (λ (s : Site). Sums (s ∷ []) first) (sym e) (sums-loaded f (givenTable ws t))) w
+      let u : r .load .tally ≡ firstTally = L .load .tally ∙ hit _ _ _ load-done in
+      accounted (siteAt a (r .load .left)) (subst (λ (s : Site). Sums (s ∷ []) firstTally) (sym e) (sums-loaded f (givenTable ws t))) w
       (stepsIn r) along
       (subst (λ (x : Tally). Threaded x (stepsIn r)) u c)
 
   -- its answers and its accepted calls by what was called
-  answers : answersOf a (r .behind) ≡ lone w (ownOf a (r .behind))
+  answers : answersOf a (r .behind) ≡ oneSite w (ownMade a (r .behind))
   unfolding runCalls
   answers = went .answers
 
-  calls : cs ≡ loneCalls w (ownOf a (r .behind))
+  calls : cs ≡ loneCalls w (ownMade a (r .behind))
   unfolding runCalls
   calls = went .calls
 
   -- what hydra_group_node tells, by the site
   told : (j : ℕ) (out : List ℕ)
-      → nodeAnswer (leftIn r .memory) a j out
+      → groupNodeAnswer (leftIn r .memory) a j out
       ≡ cond (ltb (length out) shownSize) NoRoom (cond (outside (timedAt a (leftIn r) .site .config) j) NoSuchNode Done)
   told = listed (leftIn r .memory) (leftIn r .area) a _ (went .fine .ground)
       (mirror own long a f (r .rows) D ws (leftIn r) cs (went .fine) (went .backed))
@@ -223,7 +223,7 @@ module _ (r : Run) (L : Loaded r) (own : List ℕ) (long : areaSize ≤ length o
 apart : (r s : Run) → Loaded r → Loaded s → SameCalls r s → Alike r s
 apart r s L K S =
     record {
-      answers = answers r L o h ∙ (λ i. lone (w i) (S .own i)) ∙ sym (answers s K o h);
+      answers = answers r L o h ∙ (λ i. oneSite (w i) (S .own i)) ∙ sym (answers s K o h);
       site = site;
       told = λ j out.
           told r L o h j out
@@ -243,7 +243,7 @@ apart r s L K S =
     h : areaSize ≤ length (r .start .area)
     h = L .room
 
-    w : _≡_ {A = TimedWorld} (beginBy (r .config) (tableFrom (r .rows)) (r .day) (r .windows) (r .start .area))
+    w : _≡_ {A = TimedState} (beginBy (r .config) (tableFrom (r .rows)) (r .day) (r .windows) (r .start .area))
         (beginBy (s .config) (tableFrom (s .rows)) (s .day) (s .windows) (r .start .area))
     w = λ i. beginBy (S .config i) (tableFrom (S .rows i)) (S .day i) (S .windows i) (r .start .area)
 
@@ -293,7 +293,7 @@ module _ (r : Run) (es : Calls) (L : Loaded (further r es)) (own : List ℕ) (lo
         R
         C i j li lj))
 
-    ends : siteIn (further r es) ≡ finalBy (r .config) (tableFrom (r .rows)) (r .day) (r .windows) own (now ++ next)
+    ends : siteOfRun (further r es) ≡ finalBy (r .config) (tableFrom (r .rows)) (r .day) (r .windows) own (now ++ next)
     ends =
         ap (λ (x : Timed). x .site) (alone (further r es) L own long)
         ∙ ap (λ (l : List Call). runCalls (beginBy (r .config) (tableFrom (r .rows)) (r .day) (r .windows) own) l .timed .site)
@@ -308,12 +308,12 @@ register =
       stands = stands;
       final = final;
       fits = λ m ds h k r. subst Fit (sym (final m ds h r)) (several .fit (m .area) k (accepted ds));
-      seated = λ r L. seated r L (r .start .area) (L .room);
+      siteSlotTaken = λ r L. siteSlotTaken r L (r .start .area) (L .room);
       alone = alone;
       beside = λ r L m ds room b q e.
           alone r L (m .area) room
           ∙ ap (λ (l : List Call). runCalls (beginBy (r .config) (tableFrom (r .rows)) (r .day) (r .windows) (m .area)) l .timed) e
-          ∙ ap (λ (x : TimedWorld). x .timed) (sym (ledger .final (r .config) (r .rows) (r .day) (r .windows) m ds b q));
+          ∙ ap (λ (x : TimedState). x .timed) (sym (ledger .final (r .config) (r .rows) (r .day) (r .windows) m ds b q));
       apart = apart;
       demand3 = everywhere Agreed (lifted .demand3);
       sends-above = everywhere SendsAbove (lifted .sends-above);
@@ -325,7 +325,7 @@ register =
       remains = everywhere Remains (lifted .remains);
       settles = everywhere Settles (lifted .settles);
       calm = λ r es L own long body v e R C i j li lj.
-          subst (λ (s : Site). Risen (siteIn r) s v i j) (sym (ends r es L own long body v i j))
+          subst (λ (s : Site). Risen (siteOfRun r) s v i j) (sym (ends r es L own long body v i j))
           (epoch r es L own long body v i j e R C li lj);
       claims = everywhere ClaimsOnce claims-once;
       accounts = λ r L c. summed r L (r .start .area) (L .room) c;

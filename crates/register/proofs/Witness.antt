@@ -25,7 +25,8 @@ use Rattle.site.specs.Members.{setupOf, downMember}
 use Rattle.node.specs.declared.Config.{Config}
 use Rattle.site.specs.Model.{Member}
 use Rattle.site.specs.declared.Table.{Table}
-use Rattle.machine.specs.Layout.{Store, wordsSize, bytesSize, atConfig, rowAt, roomAt, schedulesAt, atSent, nodeIn, siteIn, rowOf, frontOf}
+use Rattle.machine.specs.Layout.{Store, wordsSize, bytesSize, atConfig, nodeWordsAt, nodeBytesAt, schedulesAt, atSent, nodeIn, siteIn}
+use Rattle.machine.specs.Layout.{nodeWords, storedFront}
 use Rattle.machine.specs.Loading.{figured, loadedAt, filledStore, loadedStore}
 use Rattle.machine.proofs.Back.{length-row, length-front}
 use Rattle.machine.proofs.Loads.{filled-site}
@@ -34,7 +35,7 @@ use Rattle.windows.specs.declared.Window.{Window}
 use Rattle.machine.specs.hours.Hours.{givenTable, timedLoadAnswer}
 use Rattle.machine.specs.hours.Stored.{storedLoadAnswer, timedLoadedStore, timedLoadedSite}
 use Rattle.machine.proofs.hours.Laws.{loaded-site}
-use Rattle.tally.specs.Counting.{first}
+use Rattle.tally.specs.Counting.{firstTally}
 use Rattle.tally.specs.declared.Tally.{Tally}
 use Rattle.machine.proofs.turn.Laws.{first-refuses}
 use Rattle.script.specs.declared.Parsed.the-variants.{Malformed}
@@ -42,14 +43,14 @@ use Rattle.sites.specs.one.Calls.{tableFrom}
 use Rattle.ledger.specs.Lists.{Did, CalledAll, leftBy}
 use Rattle.group.specs.Group.{isNumber}
 use Rattle.group.proofs.Ground.{number-is}
-use Rattle.sites.specs.many.Memory.{Memory, memory, lent, tableSize, tooFew, storeAt, loadedAnswer}
-use Rattle.sites.specs.many.Calls.{loadAnswer, rowsFit, rowsAnswer, groupRows, tallyLoaded, lineAnswer}
+use Rattle.sites.specs.many.Memory.{Memory, memory, lent, tableSize, groupTooShort, storeAt, loadedAnswer}
+use Rattle.sites.specs.many.Calls.{groupLoadAnswer, rowCountFits, rowsAnswer, groupRows, tallyLoaded, groupLineAnswer}
 use Rattle.sites.specs.many.Inner.{loadedBy, Sized}
 use Rattle.sites.proofs.many.Lists.{length-span}
 use Rattle.sites.proofs.many.Memories.{lengths}
 use Rattle.sites.proofs.many.Memories as memories
 use Rattle.sites.proofs.many.Groups.{any-load}
-use Rattle.register.specs.Register.{Lending, Made, EventMade, LoadMade, LoadCalled, Called, Calls, loadsAgain, Run, Loaded}
+use Rattle.register.specs.Register.{Lending, GroupMade, EventMade, LoadMade, LoadCalled, Called, Calls, loadsAgain, Run, Loaded}
 use Rattle.register.specs.Register.{SameCalls}
 
 -- A loaded site is written in its own words and bytes
@@ -78,15 +79,16 @@ sized-filled s f t z = iter-inv {n = min (f .nodes) 32} (λ i u. Sized u) (loade
         let m = loadedMember f t i in
         let a = length-row m (member-long f t i) in
         let b = length-front m (member-long f t i) in
-        let l = written (u .bytes) (roomAt i) (frontOf m) in
-        let c : length l ≡ length (u .bytes) = length-written (u .bytes) (frontOf m) (roomAt i) (omega (arith, b, y .1, k)) in (
-          length-written (u .words) (rowOf (m .node)) (rowAt i) (omega (arith, a, y .0, k)) ∙ y .0,
+        let l = written (u .bytes) (nodeBytesAt i) (storedFront m) in
+        let c : length l ≡ length (u .bytes) = length-written (u .bytes) (storedFront m) (nodeBytesAt i) (omega (arith, b, y .1, k)) in (
+          length-written (u .words) (nodeWords (m .node)) (nodeWordsAt i) (omega (arith, a, y .0, k)) ∙ y .0,
           moved-apart l (schedulesAt i) (omega (arith, c, y .1, k)) Free (coreOf (nodeIn u i)) .long ∙ c ∙ y .1,
         )
 
 -- An accepted load
-module _ (m : Memory) (area : List ℕ) (a : ℕ) (f : Config) (rows : List ℕ) (D : ℕ) (ws : List Window) (t : Tally) (h : tooFew m ≡ false)
-    (n : isNumber a ≡ true) (fit : rowsFit f rows ≡ true) (ok : timedLoadAnswer f (tableFrom rows) D ws ≡ Done) where
+module _ (m : Memory) (area : List ℕ) (a : ℕ) (f : Config) (rows : List ℕ) (D : ℕ) (ws : List Window) (t : Tally)
+    (h : groupTooShort m ≡ false)
+    (n : isNumber a ≡ true) (fit : rowCountFits f rows ≡ true) (ok : timedLoadAnswer f (tableFrom rows) D ws ≡ Done) where
   abbrev s : Store
   s = storeAt m (a - 1)
 
@@ -121,10 +123,10 @@ module _ (m : Memory) (area : List ℕ) (a : ℕ) (f : Config) (rows : List ℕ)
   left = record { memory = memory (after .words) (after .bytes) (after .table); area = area }
 
   answer : rowsAnswer m a f rows D ws ≡ Done
-  unfolding rowsAnswer loadAnswer
+  unfolding rowsAnswer groupLoadAnswer
   answer = hit _ _ _ fit ∙ hit _ _ _ n ∙ skip _ NoRoom _ _ h ok
 
-  pub load-made : LoadCalled (record { memory = m; area = area }) a f rows D ws t 0 first left
+  pub load-made : LoadCalled (record { memory = m; area = area }) a f rows D ws t 0 firstTally left
   unfolding groupRows tallyLoaded
   load-made =
       record {
@@ -137,10 +139,10 @@ module _ (m : Memory) (area : List ℕ) (a : ℕ) (f : Config) (rows : List ℕ)
 
 -- A call whose numbers make no event, of any number: it is refused
 abbrev said : ℕ → Lending → ℕ
-said b m = number (lineAnswer (m .memory) (m .area) b (lent [] first []) Malformed)
+said b m = number (groupLineAnswer (m .memory) (m .area) b (lent [] firstTally []) Malformed)
 
-abbrev nothing : ℕ → Lending → Did Made Lending
-nothing b m = record { call = EventMade b 99 0 0 (lent [] first []); answer = said b m; tally = first; left = m }
+abbrev nothing : ℕ → Lending → Did GroupMade Lending
+nothing b m = record { call = EventMade b 99 0 0 (lent [] firstTally []); answer = said b m; tally = firstTally; left = m }
 
 nothing-called : (b : ℕ) (m : Lending) → Called m (nothing b m)
 nothing-called b m = record { answer = refl; group = refl; tally = refl }
@@ -154,11 +156,11 @@ nothing-refused b m = first-refuses (loadedAnswer (m .memory) b) _ (go (ltb (len
 
 -- Runs: any number of such calls before the load of number 1, and one of number 1 and one of number 2 behind it
 module _ (m : Memory) (area : List ℕ) (f : Config) (rows : List ℕ) (D : ℕ) (ws : List Window) (h : memories.Lengths m)
-    (room : areaSize ≤ length area) (fit : rowsFit f rows ≡ true) (ok : timedLoadAnswer f (tableFrom rows) D ws ≡ Done) where
+    (room : areaSize ≤ length area) (fit : rowCountFits f rows ≡ true) (ok : timedLoadAnswer f (tableFrom rows) D ws ≡ Done) where
   abbrev start : Lending
   start = record { memory = memory (m .words) (m .bytes) (written (m .table) 0 (replicate tableSize 0)); area = area }
 
-  pub long : tooFew (start .memory) ≡ false
+  pub long : groupTooShort (start .memory) ≡ false
   long =
       let e = length-replicate {A = ℕ} tableSize 0 in
       let k = length-written (m .table) (replicate tableSize 0) 0 (omega (arith, e, h .table)) in
@@ -167,7 +169,7 @@ module _ (m : Memory) (area : List ℕ) (f : Config) (rows : List ℕ) (D : ℕ)
       tableSize (omega (arith, k, h .table)) i)
 
   abbrev loadedLending : Lending
-  loadedLending = left (start .memory) area 1 f rows D ws first long refl fit ok
+  loadedLending = left (start .memory) area 1 f rows D ws firstTally long refl fit ok
 
   abbrev run : Calls → Run
   run before =
@@ -177,10 +179,10 @@ module _ (m : Memory) (area : List ℕ) (f : Config) (rows : List ℕ) (D : ℕ)
         rows = rows;
         day = D;
         windows = ws;
-        tally = first;
+        tally = firstTally;
         start = start;
         before = before;
-        load = record { call = LoadMade 1 f rows D ws first; answer = 0; tally = first; left = loadedLending };
+        load = record { call = LoadMade 1 f rows D ws firstTally; answer = 0; tally = firstTally; left = loadedLending };
         behind = nothing 1 loadedLending ∷ nothing 2 loadedLending ∷ [];
       }
 
@@ -191,8 +193,8 @@ module _ (m : Memory) (area : List ℕ) (f : Config) (rows : List ℕ) (D : ℕ)
         begun = memories.begun m h area;
         room = room;
         before = r;
-        load = subst (λ (l : Lending). LoadCalled l 1 f rows D ws first 0 first loadedLending) (sym e)
-            (load-made (start .memory) area 1 f rows D ws first long refl fit ok);
+        load = subst (λ (l : Lending). LoadCalled l 1 f rows D ws firstTally 0 firstTally loadedLending) (sym e)
+            (load-made (start .memory) area 1 f rows D ws firstTally long refl fit ok);
         answer = refl;
         behind = (nothing-called 1 loadedLending, (nothing-called 2 loadedLending, tt));
         last = λ i. (nothing-refused 1 loadedLending i && false) || ((nothing-refused 2 loadedLending i && false) || false);

@@ -11,14 +11,14 @@ use lib.ListN.{length}
 use Rattle.node.specs.Answers.{number}
 use Rattle.node.specs.declared.Answer.the-variants.{Crowded}
 use Rattle.site.specs.Answers.{areaSize}
-use Rattle.site.specs.Run.{World}
+use Rattle.site.specs.Run.{RunState}
 use Rattle.node.specs.declared.Config.{Config}
 use Rattle.site.specs.Model.{Site}
 use Rattle.site.specs.declared.Event.{Event}
 use Rattle.traces.specs.Past.{Past, noPast}
 use Rattle.windows.specs.declared.Window.{Window}
 use Rattle.machine.specs.hours.Hours.{Timed}
-use Rattle.machine.specs.hours.Calls.{TimedWorld, runCalls}
+use Rattle.machine.specs.hours.Calls.{TimedState, runCalls}
 use Rattle.machine.specs.hours.Stored.{timedIn}
 use Rattle.agreement.specs.daily.Daily.{beginBy, eventsOfAll}
 use Rattle.tally.specs.declared.Tally.{Tally}
@@ -29,15 +29,15 @@ use Rattle.script.specs.declared.Parsed.{Parsed}
 use Rattle.script.specs.declared.Parsed.the-variants.{Malformed, Good}
 use Rattle.sites.specs.one.Memory.{timedOf}
 use Rattle.sites.specs.one.Calls.{tableFrom}
-use Rattle.ledger.specs.Lists.{Did, CalledAll, leftBy, Step, stepOf, stepsBy, callsIn, pastBy, Threaded, ClaimsOnce, Accounted}
+use Rattle.ledger.specs.Lists.{Did, CalledAll, leftBy, SiteStep, stepOf, stepsBy, callsIn, pastBy, Threaded, ClaimsOnce, Accounted}
 use Rattle.ledger.specs.Ledger as ledger
-use Rattle.group.specs.Group.{Group, Taken, vacant, seatOf}
+use Rattle.group.specs.Group.{Group, Taken, vacant, siteSlotOf}
 use Rattle.group.specs.Calls.{GroupCall, LoadSite}
 use Rattle.group.specs.Steps.{runGroup}
 use Rattle.group.specs.Fit.{Fit}
 use Rattle.sites.specs.many.Memory.{Memory, Lent, storeAt, dayAt, groupIn}
-use Rattle.sites.specs.many.Calls.{eventCall, rowsAnswer, groupRows, tallyLoaded, lineAnswer, groupAfterLine, tallyAfterLine}
-use Rattle.sites.specs.many.Calls.{nodeAnswer, nodeOut}
+use Rattle.sites.specs.many.Calls.{eventCall, rowsAnswer, groupRows, tallyLoaded, groupLineAnswer, groupAfterLine, tallyAfterLine}
+use Rattle.sites.specs.many.Calls.{groupNodeAnswer, nodeOut}
 
 -- the memory of a group with its packet area, and the group that they stand for
 pub record Lending : Type 0 where
@@ -56,13 +56,13 @@ siteAt a l = timedAt a l .site
 
 -- a call of hydra_group_load: a number, figures, rows, a day, its windows, and a tally; and one of hydra_group_event: a number, three
 -- numbers, and what is lent with them
-pub data Made : Type 0 where
-  LoadMade : ℕ → Config → List ℕ → ℕ → List Window → Tally → Made
-  EventMade : ℕ → ℕ → ℕ → ℕ → Lent → Made
+pub data GroupMade : Type 0 where
+  LoadMade : ℕ → Config → List ℕ → ℕ → List Window → Tally → GroupMade
+  EventMade : ℕ → ℕ → ℕ → ℕ → Lent → GroupMade
 
-abbrev pub numberOf : Made → ℕ
-numberOf (LoadMade a f rows D ws t) = a
-numberOf (EventMade a event node with v) = a
+abbrev pub madeNumber : GroupMade → ℕ
+madeNumber (LoadMade a f rows D ws t) = a
+madeNumber (EventMade a event node with v) = a
 
 -- what the contract of a call says of its answer, of the group that memory and area stand for then, and of the tally
 pub record LoadCalled (m : Lending) (a : ℕ) (f : Config) (rows : List ℕ) (D : ℕ) (ws : List Window) (t : Tally) (n : ℕ) (u : Tally)
@@ -72,26 +72,26 @@ pub record LoadCalled (m : Lending) (a : ℕ) (f : Config) (rows : List ℕ) (D 
   pub tally : u ≡ tallyLoaded (m .memory) a f rows D ws t
 
 pub record EventCalled (m : Lending) (a : ℕ) (v : Lent) (p : Parsed) (n : ℕ) (u : Tally) (l : Lending) : Type 0 where
-  pub answer : n ≡ number (lineAnswer (m .memory) (m .area) a v p)
+  pub answer : n ≡ number (groupLineAnswer (m .memory) (m .area) a v p)
   pub group : standsFor l ≡ groupAfterLine (m .memory) (m .area) a v p
   pub tally : u ≡ tallyAfterLine (m .memory) (m .area) a v p
 
-abbrev pub CallOf : Lending → Made → ℕ → Tally → Lending → Type 0
+abbrev pub CallOf : Lending → GroupMade → ℕ → Tally → Lending → Type 0
 CallOf m (LoadMade a f rows D ws t) n u l = LoadCalled m a f rows D ws t n u l
 CallOf m (EventMade a event node with v) n u l = EventCalled m a v (eventAt event node with) n u l
 
-abbrev pub Called : Lending → Did Made Lending → Type 0
+abbrev pub Called : Lending → Did GroupMade Lending → Type 0
 Called m d = CallOf m (d .call) (d .answer) (d .tally) (d .left)
 
 abbrev pub Calls : Type 0
-Calls = List (Did Made Lending)
+Calls = List (Did GroupMade Lending)
 
 -- the group's call: three numbers that make no event make none
 abbrev pub lineCall : ℕ → List Window → Parsed → List GroupCall
 lineCall a ws Malformed = []
 lineCall a ws (Good e) = eventCall a ws e ∷ []
 
-abbrev pub groupCall : Made → List GroupCall
+abbrev pub groupCall : GroupMade → List GroupCall
 groupCall (LoadMade a f rows D ws t) = LoadSite a f (tableFrom rows) D ws ∷ []
 groupCall (EventMade a event node with v) = lineCall a (v .windows) (eventAt event node with)
 
@@ -101,19 +101,19 @@ accepted [] = []
 accepted (d ∷ ds) = cond (eqb (d .answer) 0) (groupCall (d .call)) [] ++ accepted ds
 
 -- One number: the steps of its site are the accepted events of the number
-abbrev pub stepMade : ℕ → Lending → Made → Tally → Lending → List Step
+abbrev pub stepMade : ℕ → Lending → GroupMade → Tally → Lending → List SiteStep
 stepMade a m (LoadMade b f rows D ws t) u l = []
 stepMade a m (EventMade b event node with v) u l =
     cond (eqb b a) (stepOf (eventAt event node with) (v .windows) (siteAt a m) (siteAt a l) (v .tally) u) []
 
-abbrev pub stepFor : ℕ → Lending → Did Made Lending → List Step
+abbrev pub stepFor : ℕ → Lending → Did GroupMade Lending → List SiteStep
 stepFor a m d = stepMade a m (d .call) (d .tally) (d .left)
 
-abbrev pub stepsOf : ℕ → Lending → Calls → List Step
+abbrev pub stepsOf : ℕ → Lending → Calls → List SiteStep
 stepsOf a m ds = stepsBy (stepFor a) m ds
 
 -- whether a load of the number is among the calls that were answered with 0
-abbrev pub isLoad : ℕ → Made → Bool
+abbrev pub isLoad : ℕ → GroupMade → Bool
 isLoad a (LoadMade b f rows D ws t) = eqb b a
 isLoad a (EventMade b event node with v) = false
 
@@ -131,7 +131,7 @@ pub record Run : Type 0 where
   pub tally : Tally
   pub start : Lending
   pub before : Calls
-  pub load : Did Made Lending
+  pub load : Did GroupMade Lending
   pub behind : Calls
 
 abbrev pub leftIn : Run → Lending
@@ -149,26 +149,26 @@ pub record Loaded (r : Run) : Type 0 where
   pub last : loadsAgain (r .number) (r .behind) ≡ false
 
 -- the site at the number then, its steps since the load, and its past
-abbrev pub siteIn : Run → Site
-siteIn r = siteAt (r .number) (leftIn r)
+abbrev pub siteOfRun : Run → Site
+siteOfRun r = siteAt (r .number) (leftIn r)
 
-abbrev pub stepsIn : Run → List Step
+abbrev pub stepsIn : Run → List SiteStep
 stepsIn r = stepsOf (r .number) (r .load .left) (r .behind)
 
 abbrev pub pastIn : Run → Past
 pastIn r = pastBy (noPast (siteAt (r .number) (r .load .left))) (stepsIn r)
 
 -- what these steps make of the site alone, with any area of its own
-abbrev pub aloneIn : Run → List ℕ → TimedWorld
+abbrev pub aloneIn : Run → List ℕ → TimedState
 aloneIn r own = runCalls (beginBy (r .config) (tableFrom (r .rows)) (r .day) (r .windows) own) (callsIn (stepsIn r))
 
 -- the site with that area
-abbrev pub worldIn : Run → List ℕ → World
-worldIn r own = record { site = siteIn r; area = aloneIn r own .area }
+abbrev pub runStateIn : Run → List ℕ → RunState
+runStateIn r own = record { site = siteOfRun r; area = aloneIn r own .area }
 
 -- a claim about a moment (crate lifted), of the words and bytes of each number since its load
 pub record InGroup (P : Claim) : Type 0 where
-  pub holds : (r : Run) → Loaded r → (own : List ℕ) → areaSize ≤ length own → P (r .config) (worldIn r own) (pastIn r)
+  pub holds : (r : Run) → Loaded r → (own : List ℕ) → areaSize ≤ length own → P (r .config) (runStateIn r own) (pastIn r)
 
 -- more calls behind
 abbrev pub further : Run → Calls → Run
@@ -187,18 +187,18 @@ further r es =
     }
 
 -- Two runs: the calls of a number, and whether 17 answered them; and the answers
-pub record Own : Type 0 where
-  pub call : Made
+pub record OwnCall : Type 0 where
+  pub call : GroupMade
   pub crowded : Bool
 
-unfoldable pub ownOf : ℕ → Calls → List Own
-ownOf a [] = []
-ownOf a (d ∷ ds) =
-    cond (eqb (numberOf (d .call)) a) (record { call = d .call; crowded = eqb (d .answer) (number Crowded) } ∷ []) [] ++ ownOf a ds
+unfoldable pub ownMade : ℕ → Calls → List OwnCall
+ownMade a [] = []
+ownMade a (d ∷ ds) =
+    cond (eqb (madeNumber (d .call)) a) (record { call = d .call; crowded = eqb (d .answer) (number Crowded) } ∷ []) [] ++ ownMade a ds
 
 unfoldable pub answersOf : ℕ → Calls → List ℕ
 answersOf a [] = []
-answersOf a (d ∷ ds) = cond (eqb (numberOf (d .call)) a) (d .answer ∷ []) [] ++ answersOf a ds
+answersOf a (d ∷ ds) = cond (eqb (madeNumber (d .call)) a) (d .answer ∷ []) [] ++ answersOf a ds
 
 -- the same load of the same number, the same calls of it, and 17 answers the same of these
 pub record SameCalls (r s : Run) : Type 0 where
@@ -207,13 +207,14 @@ pub record SameCalls (r s : Run) : Type 0 where
   pub rows : r .rows ≡ s .rows
   pub day : r .day ≡ s .day
   pub windows : r .windows ≡ s .windows
-  pub own : ownOf (r .number) (r .behind) ≡ ownOf (s .number) (s .behind)
+  pub own : ownMade (r .number) (r .behind) ≡ ownMade (s .number) (s .behind)
 
 -- the same answers, the same site with its day, and the same answers and bytes of hydra_group_node for each of its nodes
 pub record Alike (r s : Run) : Type 0 where
   pub answers : answersOf (r .number) (r .behind) ≡ answersOf (s .number) (s .behind)
   pub site : timedAt (r .number) (leftIn r) ≡ timedAt (s .number) (leftIn s)
-  pub told : (j : ℕ) (out : List ℕ) → nodeAnswer (leftIn r .memory) (r .number) j out ≡ nodeAnswer (leftIn s .memory) (s .number) j out
+  pub told : (j : ℕ) (out : List ℕ) → groupNodeAnswer (leftIn r .memory) (r .number) j out
+      ≡ groupNodeAnswer (leftIn s .memory) (s .number) j out
   pub listed : (j : ℕ) (out : List ℕ) → nodeOut (leftIn r .memory) (r .number) j out ≡ nodeOut (leftIn s .memory) (s .number) j out
 
 -- the statement: proved in proofs/Theorem.antt
@@ -227,10 +228,10 @@ pub record Register : Type 0 where
       → Fit (standsFor (leftBy m ds))
   -- as alone: a site with its day stands at the number, and it is what its own accepted calls make of a site alone, whatever was called for
   -- other numbers before and in between
-  pub seated : (r : Run) → Loaded r → seatOf (standsFor (leftIn r)) (r .number) ≡ Taken (timedAt (r .number) (leftIn r))
+  pub siteSlotTaken : (r : Run) → Loaded r → siteSlotOf (standsFor (leftIn r)) (r .number) ≡ Taken (timedAt (r .number) (leftIn r))
   pub alone : (r : Run) → Loaded r → (own : List ℕ) → areaSize ≤ length own → timedAt (r .number) (leftIn r) ≡ aloneIn r own .timed
   -- so it is what the memory of one site stands for (crate ledger) after the same load and the same accepted calls
-  pub beside : (r : Run) → Loaded r → (m : ledger.Memory) (ds : List (Did ledger.Made ledger.Memory)) → areaSize ≤ length (m .area)
+  pub beside : (r : Run) → Loaded r → (m : ledger.SiteMemory) (ds : List (Did ledger.Made ledger.SiteMemory)) → areaSize ≤ length (m .area)
       → ledger.Begun (r .config) (r .rows) (r .day) (r .windows) m → CalledAll ledger.Called m ds
       → callsIn (stepsIn r) ≡ callsIn (ledger.stepsOf m ds)
       → timedAt (r .number) (leftIn r) ≡ timedOf (ledger.storeOf (leftBy m ds))
@@ -251,8 +252,8 @@ pub record Register : Type 0 where
   -- a calm epoch made of the calls es: the number's accepted events among them, with the wants of their windows, are `body` and its end
   pub calm : (r : Run) (es : Calls) → Loaded (further r es) → (own : List ℕ) → areaSize ≤ length own → (body : List Event) (v : ℕ)
       → eventsOfAll (aloneIn r own) (callsIn (stepsOf (r .number) (leftIn r) es)) ≡ whole body
-      → Ready (pastIn r) (siteIn r) v → Calm (liveSet (siteIn r)) (worldIn r own) body
-      → (i j : ℕ) → liveIn (siteIn r) i ≡ true → liveIn (siteIn r) j ≡ true → Risen (siteIn r) (siteIn (further r es)) v i j
+      → Ready (pastIn r) (siteOfRun r) v → Calm (liveSet (siteOfRun r)) (runStateIn r own) body
+      → (i j : ℕ) → liveIn (siteOfRun r) i ≡ true → liveIn (siteOfRun r) j ≡ true → Risen (siteOfRun r) (siteOfRun (further r es)) v i j
   -- slots held: no slot is claimed twice; and the sums of the tally that the load left and each accepted event of the number was lent
   pub claims : InGroup ClaimsOnce
   pub accounts : (r : Run) → Loaded r → Threaded (r .load .tally) (stepsIn r)

@@ -43,7 +43,7 @@ pub enum Five {
 
 // Settings and table, and where the event lines start; or a refusal with the number of its line, and the settings where they were accepted
 // before it.
-pub struct Opened {
+pub struct ScriptHead {
     pub answer: Answer,
     pub line: u32,
     pub at: usize,

@@ -3,15 +3,16 @@ ghost use mathlib.Core.Path.{_≡_};
 ghost use Prim.Native.Nat.{_≤_, _<_};
 ghost use lib.ListN.{length, drop};
 ghost use Rattle.text.specs.Read.{split};
-ghost use Rattle.script.specs.load.Opening.{namesLine, configIn, settingsLine, configOf, configRead, stored, emptyTable, opening};
-ghost use Rattle.script.specs.load.Opening.{refusedAt, openedOf, readBack};
+ghost use Rattle.script.specs.load.Opening.{namesLine, configOfFive, settingsLine, configOf, configRead, rowStored, emptyTable};
+ghost use Rattle.script.specs.load.Opening.{opening};
+ghost use Rattle.script.specs.load.Opening.{refusedAt, scriptHeadOf, readBack};
 ghost use Rattle.script.specs.load.Inner.{Reads, behindNames, placeIn, foundRow, fromEvents, fromRows, fromTable, fromSettings};
 use crate::Five;
 use crate::Found;
 use crate::Four;
 use crate::Line;
 use crate::Next;
-use crate::Opened;
+use crate::ScriptHead;
 use node::Answer;
 use node::Config;
 use site::Row;
@@ -47,11 +48,11 @@ fn empty_table() -> Table
 }
 
 // A refusal of a line, with the figures read before it.
-fn refuse(line: u32, answer: Answer, config: Config) -> Opened
+fn refuse(line: u32, answer: Answer, config: Config) -> ScriptHead
     ensures { λ r. ⌜ r ≡ refusedAt line answer config ⌝ }
 {
     let table = empty_table();
-    Opened {
+    ScriptHead {
         answer,
         line,
         at: 0,
@@ -61,7 +62,7 @@ fn refuse(line: u32, answer: Answer, config: Config) -> Opened
 }
 
 fn config_in(x: Five) -> Config
-    ensures { λ r. ⌜ r ≡ configIn x ⌝ }
+    ensures { λ r. ⌜ r ≡ configOfFive x ⌝ }
 {
     match x {
         Five::NotFive => Config::none(),
@@ -104,7 +105,7 @@ fn read_row(f: Config, i: u32, x: Four) -> Found
 
 fn store(mut t: Table, i: u32, r: Row) -> Table
     requires { ⌜ i < 32 ⌝ }
-    ensures { λ x. ⌜ x ≡ stored t i r ⌝ }
+    ensures { λ x. ⌜ x ≡ rowStored t i r ⌝ }
 {
     let k = i as usize;
     t.rows[k] = r;
@@ -112,14 +113,14 @@ fn store(mut t: Table, i: u32, r: Row) -> Table
 }
 
 // The names of the events.
-fn from_events(s: &[u8], at: usize, f: Config, t: Table) -> Opened
+fn from_events(s: &[u8], at: usize, f: Config, t: Table) -> ScriptHead
     requires { ⌜ f .nodes ≤ 32 ⌝ }
     ensures { λ r. ⌜ Reads (now (s .entry)) f r (fromEvents f t (split 10 (drop at (now (s .entry))))) ⌝ }
 {
     let n = names_line(s, at, b"event node with");
     match n {
         Next::Wrong => refuse(4 + f.nodes, Answer::BadNames, f),
-        Next::At(i) => Opened {
+        Next::At(i) => ScriptHead {
             answer: Answer::Done,
             line: 0,
             at: i,
@@ -130,7 +131,7 @@ fn from_events(s: &[u8], at: usize, f: Config, t: Table) -> Opened
 }
 
 // The rows of the table, and what follows.
-fn from_rows(s: &[u8], from: usize, f: Config) -> Opened
+fn from_rows(s: &[u8], from: usize, f: Config) -> ScriptHead
     requires { ⌜ f .nodes ≤ 32 ⌝ }
     ensures { λ r. ⌜ Reads (now (s .entry)) f r (fromRows f (split 10 (drop from (now (s .entry))))) ⌝ }
 {
@@ -166,7 +167,7 @@ fn from_rows(s: &[u8], from: usize, f: Config) -> Opened
 }
 
 // The names of the table, and what follows.
-fn from_table(s: &[u8], at: usize, f: Config) -> Opened
+fn from_table(s: &[u8], at: usize, f: Config) -> ScriptHead
     requires { ⌜ f .nodes ≤ 32 ⌝ }
     ensures { λ r. ⌜ Reads (now (s .entry)) f r (fromTable f (split 10 (drop at (now (s .entry))))) ⌝ }
 {
@@ -178,7 +179,7 @@ fn from_table(s: &[u8], at: usize, f: Config) -> Opened
 }
 
 // The settings, and what follows.
-fn from_settings(s: &[u8], at: usize) -> Opened
+fn from_settings(s: &[u8], at: usize) -> ScriptHead
     ensures { λ r. ⌜ Reads (now (s .entry)) (configOf (settingsLine 2 (split 10 (drop at (now (s .entry)))))) r
         (fromSettings (split 10 (drop at (now (s .entry))))) ⌝ }
 {
@@ -199,8 +200,8 @@ fn from_settings(s: &[u8], at: usize) -> Opened
 // Settings, table, and the names of the events: an answer, and where the event lines start. A refusal keeps the settings that were
 // accepted before it. The first clause says every field for every script; the second, that the lines from the answer's place on are those
 // that the opening leaves.
-pub fn open(script: &[u8]) -> Opened
-    ensures { λ r. ⌜ r ≡ openedOf (now (script .entry)) (configRead (split 10 (now (script .entry))))
+pub fn open(script: &[u8]) -> ScriptHead
+    ensures { λ r. ⌜ r ≡ scriptHeadOf (now (script .entry)) (configRead (split 10 (now (script .entry))))
         (opening (split 10 (now (script .entry)))) ⌝ }
     ensures lines { λ r. ⌜ readBack (now (script .entry)) r ≡ opening (split 10 (now (script .entry))) ⌝ }
     ensures within { λ r. ⌜ r .at ≤ length (now (script .entry)) ⌝ }

@@ -24,7 +24,7 @@ use Rattle.wire.specs.Layout.{packetIn}
 use Rattle.wire.specs.Reads.{packetAnswer}
 use Rattle.node.proofs.Bounds as node
 use Rattle.site.specs.Counts.{topSent, sentOf, packets}
-use Rattle.site.specs.Members.{setupOf, channelOf, memberAt, outside, isLive}
+use Rattle.site.specs.Members.{setupOf, headerOf, memberAt, outside, isLive}
 use Rattle.site.specs.Parts.{packetPart}
 use Rattle.site.specs.Answers.{areaSize, isFull, isPacket, siteSend, answerPart, siteHear, siteClose, siteTake, siteEnd, siteWant}
 use Rattle.site.specs.Answers.{siteCrash, siteRestart, eventAnswer, answerOf}
@@ -60,10 +60,10 @@ pub send-accepted : (s : Site) (j : ℕ) → siteSend s j ≡ Done → Acts s j 
 unfolding siteSend
 send-accepted s j h =
     let x = acts s j _ h in
-    (x .0, leb-false _ _ (test-passed (isFull (channelOf s) j) TooManyPackets _ refl (x .1) .0))
+    (x .0, leb-false _ _ (test-passed (isFull (headerOf s) j) TooManyPackets _ refl (x .1) .0))
 
 -- of an accepted part the node's own answer is Done
-part-accepted : (s : Site) (part : List ℕ) (j : ℕ) → answerPart (channelOf s) (memberAt s j) part ≡ Done
+part-accepted : (s : Site) (part : List ℕ) (j : ℕ) → answerPart (headerOf s) (memberAt s j) part ≡ Done
     → hearAnswer (memberAt s j .node) (packetIn part) ≡ Done
 unfolding answerPart
 part-accepted s part j h = both-done (packetAnswer (s .config .nodes) part) (hearAnswer (memberAt s j .node) (packetIn part)) h .1
@@ -73,19 +73,19 @@ pub record Hears (s : Site) (area : List ℕ) (j p : ℕ) : Type 0 where
   pub acts : Acts s j
   pub from : 1 ≤ p
   pub to : p ≤ packets (s .sent)
-  pub answer : hearAnswer (memberAt s j .node) (packetIn (packetPart (channelOf s) area p)) ≡ Done
+  pub answer : hearAnswer (memberAt s j .node) (packetIn (packetPart (headerOf s) area p)) ≡ Done
 
 pub hear-accepted : (s : Site) (area : List ℕ) (j p : ℕ) → siteHear s area j p ≡ Done → Hears s area j p
 unfolding siteHear
 hear-accepted s area j p h =
     let x = acts s j _ h in
-    let y = test-passed (not (isPacket (channelOf s) p)) NoSuchPacket _ refl (x .1) in
-    let z : isPacket (channelOf s) p ≡ true = not-false _ (y .0) in
+    let y = test-passed (not (isPacket (headerOf s) p)) NoSuchPacket _ refl (x .1) in
+    let z : isPacket (headerOf s) p ≡ true = not-false _ (y .0) in
     record {
       acts = x .0;
-      from = packet-above (channelOf s) p z;
+      from = packet-above (headerOf s) p z;
       to = leb-true p (packets (s .sent)) (and-right (leb 1 p) (leb p (packets (s .sent))) z);
-      answer = part-accepted s (packetPart (channelOf s) area p) j (y .1);
+      answer = part-accepted s (packetPart (headerOf s) area p) j (y .1);
     }
 
 pub close-accepted : (s : Site) → siteClose s ≡ Done → s .negotiates ≡ true

@@ -1,4 +1,4 @@
--- Laws of a site's functions: rows, packets' numbers, seats.
+-- Laws of a site's functions: rows, packets' numbers, indices.
 -- Assumes nothing.
 use mathlib.Core.Path.{_≡_, ap₂}
 use mathlib.Core.Bool.{true, false, _&&_}
@@ -9,10 +9,10 @@ use lib.Dec.{leb}
 use Rattle.words.proofs.Tests.{hit, and-left, and-right}
 use Rattle.node.proofs.Bounds.{start-outside}
 use Rattle.site.specs.Load.{rowOk}
-use Rattle.site.specs.Members.{setupOf, outside, seat}
+use Rattle.site.specs.Members.{setupOf, outside, nodeIndex}
 use Rattle.site.specs.Counts.{packets}
 use Rattle.site.specs.Answers.{isPacket}
-use Rattle.site.specs.declared.Channel.{Channel}
+use Rattle.site.specs.declared.SiteHeader.{SiteHeader}
 use Rattle.node.specs.declared.Config.{Config}
 use Rattle.site.specs.declared.Row.{Row}
 
@@ -23,10 +23,10 @@ row-behind f i r h = start-outside (setupOf f (i + 1)) (r .version) (r .flags) (
     (ap₂ _&&_ (le-leb 1 (i + 1) (omega arith)) (lt-leb (i + 1) (f .nodes) (omega arith)))
 
 -- packets are numbered from 1
-pub packet-above : (k : Channel) (p : ℕ) → isPacket k p ≡ true → 1 ≤ p
+pub packet-above : (k : SiteHeader) (p : ℕ) → isPacket k p ≡ true → 1 ≤ p
 packet-above k p h = leb-true 1 p (and-left (leb 1 p) (leb p (packets (k .sent))) h)
 
--- a number of one of the N nodes has its own seat
-pub seat-in : (f : Config) (j : ℕ) → outside f j ≡ false → seat j ≡ j - 1
-seat-in f j h = hit (leb j 32) (j - 1) 0 (and-right (leb j (f .nodes)) (leb j 32)
+-- a number of one of the N nodes has its own index
+pub node-index-in : (f : Config) (j : ℕ) → outside f j ≡ false → nodeIndex j ≡ j - 1
+node-index-in f j h = hit (leb j 32) (j - 1) 0 (and-right (leb j (f .nodes)) (leb j 32)
     (and-right (leb 1 j) (leb j (f .nodes) && leb j 32) (not-false _ h)))

@@ -18,10 +18,10 @@ use Rattle.node.specs.declared.Answer.the-variants.{Done, NoSuchNode, WrongPhas
 use Rattle.node.proofs.Answers.{done-is}
 use Rattle.node.proofs.Bare.{send-phase}
 use Rattle.site.specs.Counts.{topSent, sentOf, oneMore}
-use Rattle.site.specs.Members.{nobody, channelOf, memberAt, outside, isLive, put}
+use Rattle.site.specs.Members.{nobody, headerOf, memberAt, outside, isLive, put}
 use Rattle.site.specs.Answers.{isFull, siteSend, answerOf}
 use Rattle.site.specs.Steps.{sentSite, heardSite, takenSite, wantedSite, crashedSite, restartedSite, nextSite, siteAfter}
-use Rattle.site.specs.Run.{World, after, run}
+use Rattle.site.specs.Run.{RunState, after, run}
 use Rattle.site.specs.Others.{isOthers, others, OwnCount}
 use Rattle.node.specs.declared.Config.{Config}
 use Rattle.site.specs.Model.{Member}
@@ -47,7 +47,7 @@ unfolding siteSend
 seven s j =
     ap (λ (x : Answer). eqb (number (cond (outside (s .config) j) NoSuchNode
     (cond (not (s .negotiates)) WrongPhase (cond (not (isLive (memberAt s j))) NotLive
-    (cond (isFull (channelOf s) j) TooManyPackets x))))) 7) (send-phase (memberAt s j .node))
+    (cond (isFull (headerOf s) j) TooManyPackets x))))) 7) (send-phase (memberAt s j .node))
     ∙ told (outside (s .config) j) (s .negotiates) (isLive (memberAt s j)) (leb topSent (sentOf (s .sent) j))
     (negotiates (memberAt s j .node .phase))
 
@@ -95,7 +95,7 @@ accepted s area j (Restart i flags) d h = put-like s i j (restart-accepted s i f
     (not-true _ h) _
 
 -- each event of another node, and each refused one
-stepped : (w : World) (j : ℕ) (e : Event) → (not (isDone (answerOf (w .site) (w .area) e)) || isOthers j e) ≡ true
+stepped : (w : RunState) (j : ℕ) (e : Event) → (not (isDone (answerOf (w .site) (w .area) e)) || isOthers j e) ≡ true
     → siteSend (after w e .site) j ≡ siteSend (w .site) j
 unfolding siteAfter
 stepped w j e h = go (isDone (answerOf (w .site) (w .area) e)) refl
@@ -105,7 +105,7 @@ stepped w j e h = go (isDone (answerOf (w .site) (w .area) e)) refl
     go true d = accepted (w .site) (w .area) j e (done-is _ d) (sym (ap (λ (t : Bool). not t || isOthers j e) d) ∙ h)
     go false d = refl
 
-kept : (w : World) (j : ℕ) (es : List Event) → others j w es ≡ true → siteSend (run w es .site) j ≡ siteSend (w .site) j
+kept : (w : RunState) (j : ℕ) (es : List Event) → others j w es ≡ true → siteSend (run w es .site) j ≡ siteSend (w .site) j
 unfolding others run
 kept w j [] h = refl
 kept w j (e ∷ es) h =

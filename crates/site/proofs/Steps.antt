@@ -16,7 +16,7 @@ use Rattle.node.specs.declared.Answer.{Answer}
 use Rattle.node.specs.declared.Answer.the-variants.{Done}
 use Rattle.node.proofs.Laws.{close-is, end-is}
 use Rattle.wire.specs.Layout.{packetIn}
-use Rattle.site.specs.Members.{nobody, channelOf, memberAt, isLive, withNode, put}
+use Rattle.site.specs.Members.{nobody, headerOf, memberAt, isLive, withNode, put}
 use Rattle.site.specs.Parts.{packetPart}
 use Rattle.site.specs.Answers.{answerOf}
 use Rattle.site.specs.Steps.{sentSite, heardSite, closeMember, closedSite, takenSite, endMember, endedSite, wantedSite, crashedSite}
@@ -56,7 +56,7 @@ unfolding siteAfter
 accepted-is s area e h = ap (λ (a : Answer). cond (isDone a) (nextSite s area e) s) h
 
 -- a hearing, by the packet that its part holds
-pub hear-as : (s : Site) (area : List ℕ) (j p : ℕ) (q : Packet) → packetIn (packetPart (channelOf s) area p) ≡ q
+pub hear-as : (s : Site) (area : List ℕ) (j p : ℕ) (q : Packet) → packetIn (packetPart (headerOf s) area p) ≡ q
     → heardSite s area j p ≡ put s j (withNode (memberAt s j) (heardNode (memberAt s j .node) q))
 unfolding heardSite
 hear-as s area j p q e = ap (λ (x : Packet). put s j (withNode (memberAt s j) (heardNode (memberAt s j .node) x))) e

@@ -12,7 +12,7 @@ use Rattle.node.specs.declared.Setup.{Setup}
 use Rattle.node.specs.Model.{Node}
 use Rattle.node.specs.declared.Phase.the-variants.{Waiting as waitingPhase}
 use Rattle.node.specs.declared.Config.{Config}
-use Rattle.site.specs.declared.Channel.{Channel}
+use Rattle.site.specs.declared.SiteHeader.{SiteHeader}
 use Rattle.site.specs.Model.{Member}
 use Rattle.site.specs.Model.{Site}
 use Rattle.site.specs.declared.State.{State}
@@ -31,7 +31,7 @@ nobody =
         request = 0;
         flags = 0;
         round = record { merged = 0; known = []; lowest = 0; highest = 0; heard = 0 };
-        epoch = record { counts = []; met = 0; place = 0; updated = false; determined = noSchedule };
+        epoch = record { counters = []; interactions = 0; place = 0; updated = false; determined = noSchedule };
         phase = waitingPhase;
       };
     }
@@ -45,8 +45,8 @@ abbrev pub memberAt : Site → ℕ → Member
 memberAt s j = getD (s .members) (j - 1) nobody
 
 -- what a site holds beside its members
-abbrev pub channelOf : Site → Channel
-channelOf s = record { config = s .config; negotiates = s .negotiates; place = s .place; sent = s .sent }
+abbrev pub headerOf : Site → SiteHeader
+headerOf s = record { config = s .config; negotiates = s .negotiates; place = s .place; sent = s .sent }
 
 -- a number that is none of the N nodes'; no site has more than 32
 abbrev pub outside : Config → ℕ → Bool
@@ -79,5 +79,5 @@ put s j m = record {
 }
 
 -- where the member of number j stands among 32; the first stands in for a number of none
-abbrev pub seat : ℕ → ℕ
-seat j = cond (leb j 32) (j - 1) 0
+abbrev pub nodeIndex : ℕ → ℕ
+nodeIndex j = cond (leb j 32) (j - 1) 0

@@ -11,7 +11,7 @@ use Rattle.site.specs.Counts.{topSent, sentOf}
 use Rattle.site.specs.Members.{memberAt, outside, isLive}
 use Rattle.site.specs.Answers.{siteSend, answerOf}
 use Rattle.site.specs.Events.{isClose, isEnd, actor}
-use Rattle.site.specs.Run.{World, after, run}
+use Rattle.site.specs.Run.{RunState, after, run}
 use Rattle.site.specs.Model.{Site}
 use Rattle.site.specs.declared.Event.{Event}
 
@@ -20,7 +20,7 @@ abbrev pub isOthers : ℕ → Event → Bool
 isOthers j e = not (isClose e) && (not (isEnd e) && not (eqb (actor e) j))
 
 -- whether each event of a list is of another node than j, or refused
-unfoldable pub others : ℕ → World → List Event → Bool
+unfoldable pub others : ℕ → RunState → List Event → Bool
 others j w [] = true
 others j w (e ∷ es) = (not (isDone (answerOf (w .site) (w .area) e)) || isOthers j e) && others j (after w e) es
 
@@ -30,4 +30,4 @@ pub record OwnCount : Type 0 where
   pub seven : (s : Site) (j : ℕ) → eqb (number (siteSend s j)) 7
       ≡ (not (outside (s .config) j) && (s .negotiates && (isLive (memberAt s j) && leb topSent (sentOf (s .sent) j))))
   -- after a list of events of other nodes, and of refused ones, a send of node j is answered as before it: 7 or any other number
-  pub kept : (w : World) (j : ℕ) (es : List Event) → others j w es ≡ true → siteSend (run w es .site) j ≡ siteSend (w .site) j
+  pub kept : (w : RunState) (j : ℕ) (es : List Event) → others j w es ≡ true → siteSend (run w es .site) j ≡ siteSend (w .site) j

@@ -7,15 +7,15 @@ use Rattle.site.specs.Model.{Site}
 use Rattle.site.specs.declared.Event.{Event}
 
 -- a site and the packet area lent with it
-pub record World : Type 0 where
+pub record RunState : Type 0 where
   pub site : Site
   pub area : List ℕ
 
 -- after one event
-abbrev pub after : World → Event → World
+abbrev pub after : RunState → Event → RunState
 after w e = record { site = siteAfter (w .site) (w .area) e; area = areaAfter (w .site) (w .area) e }
 
 -- after a list of events
-unfoldable pub run : World → List Event → World
+unfoldable pub run : RunState → List Event → RunState
 run w [] = w
 run w (e ∷ es) = run (after w e) es

@@ -13,10 +13,10 @@ use Rattle.node.specs.declared.Packet.{Packet}
 use Rattle.wire.specs.Layout.{packetIn}
 use Rattle.wire.specs.Reads.{placed, hasPart}
 use Rattle.site.specs.Counts.{noneSent, oneMore}
-use Rattle.site.specs.Members.{setupOf, channelOf, memberAt, isLive, withNode, downMember, put}
+use Rattle.site.specs.Members.{setupOf, headerOf, memberAt, isLive, withNode, downMember, put}
 use Rattle.site.specs.Parts.{nextIndex, packetPart}
 use Rattle.site.specs.Answers.{answerOf}
-use Rattle.site.specs.declared.Channel.{Channel}
+use Rattle.site.specs.declared.SiteHeader.{SiteHeader}
 use Rattle.site.specs.Model.{Member}
 use Rattle.site.specs.Model.{Site}
 use Rattle.site.specs.declared.Event.{Event}
@@ -39,14 +39,14 @@ stored area index p = cond (hasPart area index) (placed area index p) area
 
 -- the new packet in its own part
 unfoldable pub sentArea : Site → List ℕ → ℕ → List ℕ
-sentArea s area j = stored area (nextIndex (channelOf s)) (packetOf (memberAt s j .node))
+sentArea s area j = stored area (nextIndex (headerOf s)) (packetOf (memberAt s j .node))
 
 -- a member that has heard the packet of a part
 abbrev pub heardMember : List ℕ → Member → Member
 heardMember part m = withNode m (heardNode (m .node) (packetIn part))
 
 unfoldable pub heardSite : Site → List ℕ → ℕ → ℕ → Site
-heardSite s area j p = put s j (heardMember (packetPart (channelOf s) area p) (memberAt s j))
+heardSite s area j p = put s j (heardMember (packetPart (headerOf s) area p) (memberAt s j))
 
 -- a close acts on a live node
 abbrev pub closeMember : Member → Member
@@ -98,11 +98,11 @@ unfoldable pub crashedSite : Site → ℕ → Site
 crashedSite s j = put s j (downMember (s .config) j)
 
 -- a restarted node waits until the epoch is over, with the flags of its restart; its demand is 0
-abbrev pub restartedMember : Channel → ℕ → ℕ → Member
+abbrev pub restartedMember : SiteHeader → ℕ → ℕ → Member
 restartedMember k j flags = record { up = true; node = waiting (setupOf (k .config) j) flags (k .place) 0 }
 
 unfoldable pub restartedSite : Site → ℕ → ℕ → Site
-restartedSite s j flags = put s j (restartedMember (channelOf s) j flags)
+restartedSite s j flags = put s j (restartedMember (headerOf s) j flags)
 
 -- the site after an accepted event
 abbrev pub nextSite : Site → List ℕ → Event → Site

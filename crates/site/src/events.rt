@@ -2,7 +2,7 @@
 ghost use mathlib.Core.Path.{_≡_};
 ghost use Prim.Native.Nat.{_<_};
 ghost use Rattle.site.specs.Events.{isClose, isEnd};
-ghost use Rattle.site.specs.Members.{seat};
+ghost use Rattle.site.specs.Members.{nodeIndex};
 use crate::Event;
 
 pub fn is_close(e: Event) -> bool
@@ -36,8 +36,8 @@ pub fn is_end(e: Event) -> bool
 }
 
 // Where the member of number j stands; the first stands in for a number of none.
-pub fn seat(j: u32) -> usize
-    ensures { λ r. ⌜ r ≡ seat j ⌝ }
+pub fn node_index(j: u32) -> usize
+    ensures { λ r. ⌜ r ≡ nodeIndex j ⌝ }
     ensures within { λ r. ⌜ r < 32 ⌝ }
 {
     if 32 < j {

@@ -7,7 +7,7 @@ mod looks;
 
 pub use events::is_close;
 pub use events::is_end;
-pub use events::seat;
+pub use events::node_index;
 use node::Answer;
 use node::Config;
 use node::Setup;
@@ -31,7 +31,7 @@ pub enum State {
 }
 
 // What a site holds beside its members. The phase and the place in the epoch move on with or without live nodes.
-pub struct Channel {
+pub struct SiteHeader {
     pub config: Config,
     pub negotiates: bool,
     pub place: u32,
@@ -88,7 +88,7 @@ pub fn load_answer(f: Config, t: Table) -> Answer
     Answer::OutOfRange
 }
 
-impl Channel {
+impl SiteHeader {
     // The packets of one node in a phase, and the bytes of the area that those of 32 nodes lie in.
     pub const SENT: u8 = 8;
 

@@ -3,9 +3,9 @@ ghost use mathlib.Core.Path.{_≡_};
 ghost use Rattle.site.specs.Answers.{isFull, isPacket};
 ghost use Rattle.site.specs.Counts.{packets};
 ghost use Rattle.site.specs.Members.{outside};
-use crate::Channel;
+use crate::SiteHeader;
 
-impl Channel {
+impl SiteHeader {
     // Whether j is none of the N nodes' numbers.
     pub fn outside(self, j: u32) -> bool
         ensures { λ r. ⌜ r ≡ outside (self .config) j ⌝ }
@@ -19,7 +19,7 @@ impl Channel {
         ensures { λ r. ⌜ r ≡ isFull self j ⌝ }
     {
         let sent = self.sent;
-        Channel::SENT <= membership::requests::entry_of(sent, j)
+        SiteHeader::SENT <= membership::requests::entry_of(sent, j)
     }
 
     // The packets of this phase, all nodes together.

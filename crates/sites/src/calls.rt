@@ -10,11 +10,12 @@ ghost use Rattle.machine.specs.hours.Stored.{storedLoadAnswer, timedLoadedStore
 ghost use Rattle.group.specs.Places.{topPlaces};
 ghost use Rattle.sites.specs.one.Calls.{showing, outNode};
 ghost use Rattle.sites.specs.many.Memory.{memory, lent, tableSize, storeAt};
-ghost use Rattle.sites.specs.many.Inner.{Sized, isFull, loneIn, toldBy, storeBy, siteBy, placesBy, areaBy, reportBy, memoryBy};
+ghost use Rattle.sites.specs.many.Inner.{Sized, commonFull, loneIn, stepResultBy, storeBy, siteBy, placesBy, areaBy, reportBy};
+ghost use Rattle.sites.specs.many.Inner.{memoryBy};
 ghost use Rattle.sites.specs.many.Inner.{loadedBy};
 use crate::Tallied;
 use crate::places;
-use crate::seats;
+use crate::site_slots;
 use crate::turns;
 use machine::BYTES;
 use machine::Day;
@@ -36,7 +37,8 @@ pub(crate) fn load_at(
     epochs: u32,
     w: &[u32],
 ) -> u32
-    requires { ⌜ (8 * wordsSize ≤ length (now words)) × (8 * bytesSize ≤ length (now bytes)) × (tableSize ≤ length (now table)) × (i < 8) ⌝ }
+    requires { ⌜ (8 * wordsSize ≤ length (now words)) × (8 * bytesSize ≤ length (now bytes))
+        × (tableSize ≤ length (now table)) × (i < 8) ⌝ }
     ensures { λ r. ⌜ r ≡ number (storedLoadAnswer (storeAt (memory (now (words .entry)) (now (bytes .entry)) (now (table .entry))) i) f t
         epochs (windowsIn (now (w .entry)))) ⌝ }
     ensures { λ _. ⌜ now (words .exit)
@@ -64,7 +66,7 @@ pub(crate) fn load_at(
         return node::code(answer);
     }
     places::free(&mut table[..256], a);
-    seats::set_seat(
+    site_slots::set_site_slot(
         table,
         i,
         Day {
@@ -91,13 +93,13 @@ pub(crate) fn event_at(
     requires { ⌜ (8 * wordsSize ≤ length (now words)) × (8 * bytesSize ≤ length (now bytes)) × (tableSize ≤ length (now table)) × (i < 8)
         × (a ≤ 8) ⌝ }
     ensures { λ r. ⌜ r ≡ record {
-      code = toldBy
+      code = stepResultBy
           (loneIn (memory (now (words .entry)) (now (bytes .entry)) (now (table .entry))) (now (area .entry)) i a)
-          (isFull (memory (now (words .entry)) (now (bytes .entry)) (now (table .entry))) e)
+          (commonFull (memory (now (words .entry)) (now (bytes .entry)) (now (table .entry))) e)
           (lent (windowsIn (now (w .entry))) t (now (out .entry))) e .code;
       tally =
-          toldBy (loneIn (memory (now (words .entry)) (now (bytes .entry)) (now (table .entry))) (now (area .entry)) i a)
-          (isFull (memory (now (words .entry)) (now (bytes .entry)) (now (table .entry))) e)
+          stepResultBy (loneIn (memory (now (words .entry)) (now (bytes .entry)) (now (table .entry))) (now (area .entry)) i a)
+          (commonFull (memory (now (words .entry)) (now (bytes .entry)) (now (table .entry))) e)
           (lent (windowsIn (now (w .entry))) t (now (out .entry))) e .tally;
     } ⌝ }
     ensures { λ _. ⌜ now (words .exit)
@@ -111,28 +113,28 @@ pub(crate) fn event_at(
         (lent (windowsIn (now (w .entry))) t (now (out .entry))) e .table ⌝ }
     ensures { λ _. ⌜ now (area .exit)
         ≡ areaBy (loneIn (memory (now (words .entry)) (now (bytes .entry)) (now (table .entry))) (now (area .entry)) i a)
-        (isFull (memory (now (words .entry)) (now (bytes .entry)) (now (table .entry))) e)
+        (commonFull (memory (now (words .entry)) (now (bytes .entry)) (now (table .entry))) e)
         (lent (windowsIn (now (w .entry))) t (now (out .entry))) e ⌝ }
     ensures { λ _. ⌜ now (out .exit)
         ≡ reportBy (loneIn (memory (now (words .entry)) (now (bytes .entry)) (now (table .entry))) (now (area .entry)) i a)
-        (isFull (memory (now (words .entry)) (now (bytes .entry)) (now (table .entry))) e)
+        (commonFull (memory (now (words .entry)) (now (bytes .entry)) (now (table .entry))) e)
         (lent (windowsIn (now (w .entry))) t (now (out .entry))) e ⌝ }
     ensures sized { λ _. ⌜ Sized (storeBy
         (loneIn (memory (now (words .entry)) (now (bytes .entry)) (now (table .entry))) (now (area .entry)) i a)
-        (isFull (memory (now (words .entry)) (now (bytes .entry)) (now (table .entry))) e)
+        (commonFull (memory (now (words .entry)) (now (bytes .entry)) (now (table .entry))) e)
         (lent (windowsIn (now (w .entry))) t (now (out .entry))) e)
         × (length (placesBy (loneIn (memory (now (words .entry)) (now (bytes .entry)) (now (table .entry))) (now (area .entry)) i a)
-        (isFull (memory (now (words .entry)) (now (bytes .entry)) (now (table .entry))) e)
+        (commonFull (memory (now (words .entry)) (now (bytes .entry)) (now (table .entry))) e)
         (lent (windowsIn (now (w .entry))) t (now (out .entry))) e) ≡ topPlaces)
         × (siteIn (storeBy (loneIn (memory (now (words .entry)) (now (bytes .entry)) (now (table .entry))) (now (area .entry)) i a)
-        (isFull (memory (now (words .entry)) (now (bytes .entry)) (now (table .entry))) e)
+        (commonFull (memory (now (words .entry)) (now (bytes .entry)) (now (table .entry))) e)
         (lent (windowsIn (now (w .entry))) t (now (out .entry))) e)
         ≡ siteBy (loneIn (memory (now (words .entry)) (now (bytes .entry)) (now (table .entry))) (now (area .entry)) i a)
-        (isFull (memory (now (words .entry)) (now (bytes .entry)) (now (table .entry))) e)
+        (commonFull (memory (now (words .entry)) (now (bytes .entry)) (now (table .entry))) e)
         (lent (windowsIn (now (w .entry))) t (now (out .entry))) e) ⌝ }
 {
-    let full = seats::is_full(words, bytes, table, e);
-    let day = seats::day_at(table, i);
+    let full = site_slots::is_full(words, bytes, table, e);
+    let day = site_slots::day_at(table, i);
     let from = WORDS * i;
     let to = from + WORDS;
     let low = BYTES * i;
@@ -152,7 +154,7 @@ pub(crate) fn event_at(
     );
     let next = r.day;
     let tally = r.tally;
-    seats::set_seat(table, i, next);
+    site_slots::set_site_slot(table, i, next);
     Tallied {
         code: r.code,
         tally,

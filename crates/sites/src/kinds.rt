@@ -1,7 +1,7 @@
 // Which events are a send or a hear, of which node, and of which packet.
 ghost use mathlib.Core.Path.{_≡_};
 ghost use Rattle.group.specs.Calls.{isSend};
-ghost use Rattle.sites.specs.many.Inner.{isHear, nodeOf, packetIn};
+ghost use Rattle.sites.specs.many.Inner.{isHear, eventNode, eventPacket};
 use site::Event;
 
 pub(crate) fn is_send(e: Event) -> bool
@@ -36,7 +36,7 @@ pub(crate) fn is_hear(e: Event) -> bool
 
 // The node of a send or a hear, 0 of any other event.
 pub(crate) fn node_of(e: Event) -> u32
-    ensures { λ r. ⌜ r ≡ nodeOf e ⌝ }
+    ensures { λ r. ⌜ r ≡ eventNode e ⌝ }
 {
     match e {
         Event::Send(j) => j,
@@ -52,7 +52,7 @@ pub(crate) fn node_of(e: Event) -> u32
 
 // The packet of a hear, 0 of any other event.
 pub(crate) fn packet_in(e: Event) -> u32
-    ensures { λ r. ⌜ r ≡ packetIn e ⌝ }
+    ensures { λ r. ⌜ r ≡ eventPacket e ⌝ }
 {
     match e {
         Event::Send(_) => 0,

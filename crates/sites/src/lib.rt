@@ -7,7 +7,7 @@ pub mod many;
 mod memory;
 pub mod one;
 mod places;
-mod seats;
+mod site_slots;
 mod turns;
 
 use tally::Tally;

@@ -9,24 +9,27 @@ ghost use lib.Dec.{ltb};
 ghost use lib.ListN.{length};
 ghost use Rattle.node.specs.declared.Answer.the-variants.{OutOfRange, NoRoom};
 ghost use Rattle.site.specs.Answers.{areaSize};
-ghost use Rattle.machine.specs.turn.Kept.{firstOf};
-ghost use Rattle.machine.specs.turn.Stored.{noPlace};
+ghost use Rattle.machine.specs.turn.Kept.{firstRefusal};
+ghost use Rattle.machine.specs.turn.Stored.{reportTooShort};
 ghost use Rattle.windows.specs.Copies.{windowsIn, listOf};
 ghost use Rattle.script.specs.events.Events.{eventAt};
 ghost use Rattle.sites.specs.one.Calls.{configFrom};
 ghost use Rattle.group.specs.Group.{vacant};
 ghost use Rattle.sites.specs.many.Memory.{memory, lent, loadedAnswer, groupIn};
-ghost use Rattle.sites.specs.many.Calls.{beginAnswer, begunTable, loadAnswer, afterLoad, groupLoaded, eventTold, afterEvent};
-ghost use Rattle.sites.specs.many.Calls.{areaAfter, reportAfter, groupAfter, rowsAnswer, afterRows, groupRows, tallyLoaded, rowsTold};
-ghost use Rattle.sites.specs.many.Calls.{lineAnswer, lineTold, afterLine, areaAfterLine, tallyAfterLine, reportAfterLine};
-ghost use Rattle.sites.specs.many.Calls.{groupAfterLine, nodeAnswer, nodeOut};
+ghost use Rattle.sites.specs.many.Calls.{beginAnswer, begunTable, groupLoadAnswer, afterLoad, groupLoaded, groupEventTallied};
+ghost use Rattle.sites.specs.many.Calls.{afterEvent};
+ghost use Rattle.sites.specs.many.Calls.{groupAreaAfter, reportAfter, groupAfter, rowsAnswer, afterRows, groupRows, tallyLoaded};
+ghost use Rattle.sites.specs.many.Calls.{rowsTold};
+ghost use Rattle.sites.specs.many.Calls.{groupLineAnswer, groupLineTallied, afterLine, areaAfterLine, tallyAfterLine};
+ghost use Rattle.sites.specs.many.Calls.{reportAfterLine};
+ghost use Rattle.sites.specs.many.Calls.{groupAfterLine, groupNodeAnswer, nodeOut};
 use crate::Tallied;
-use crate::seats::TABLE;
+use crate::site_slots::TABLE;
 use node::Answer;
 use node::Config;
 use script::Parsed;
-use site::Channel;
 use site::Event;
+use site::SiteHeader;
 use site::Table;
 use tally::Tally;
 use windows::Window;
@@ -37,12 +40,13 @@ use windows::Windows;
 pub extern "C" fn hydra_group_begin(words: &[u32], bytes: &[u8], table: &mut [u32]) -> u32
     ensures { λ r. ⌜ r ≡ number (beginAnswer (memory (now (words .entry)) (now (bytes .entry)) (now (table .entry)))) ⌝ }
     ensures { λ _. ⌜ now (table .exit) ≡ begunTable (memory (now (words .entry)) (now (bytes .entry)) (now (table .entry))) ⌝ }
-    ensures { λ _. ⌜ ((area : List ℕ) → groupIn (memory (now (words .entry)) (now (bytes .entry)) (now (table .exit))) area ≡ vacant area) ⌝ }
+    ensures { λ _. ⌜ ((area : List ℕ) → groupIn (memory (now (words .entry)) (now (bytes .entry)) (now (table .exit)))
+        area ≡ vacant area) ⌝ }
 {
-    if crate::seats::too_few(words, bytes, table) {
+    if crate::site_slots::too_few(words, bytes, table) {
         return node::code(Answer::NoRoom);
     }
-    crate::seats::clear(&mut table[..TABLE]);
+    crate::site_slots::clear(&mut table[..TABLE]);
     0
 }
 
@@ -57,7 +61,7 @@ pub fn load(
     epochs: u32,
     w: &[u32],
 ) -> u32
-    ensures { λ r. ⌜ r ≡ number (loadAnswer (memory (now (words .entry)) (now (bytes .entry)) (now (table .entry))) a f t epochs
+    ensures { λ r. ⌜ r ≡ number (groupLoadAnswer (memory (now (words .entry)) (now (bytes .entry)) (now (table .entry))) a f t epochs
         (windowsIn (now (w .entry)))) ⌝ }
     ensures { λ _. ⌜ now (words .exit)
         ≡ afterLoad (memory (now (words .entry)) (now (bytes .entry)) (now (table .entry))) a f t epochs (windowsIn (now (w .entry))) .words
@@ -72,10 +76,10 @@ pub fn load(
         ≡ groupLoaded (memory (now (words .entry)) (now (bytes .entry)) (now (table .entry))) area a f t epochs
         (windowsIn (now (w .entry)))) ⌝ }
 {
-    if !crate::seats::is_number(a) {
+    if !crate::site_slots::is_number(a) {
         return node::code(Answer::NoSuchNode);
     }
-    if crate::seats::too_few(words, bytes, table) {
+    if crate::site_slots::too_few(words, bytes, table) {
         return node::code(Answer::NoRoom);
     }
     crate::calls::load_at(words, bytes, table, a as usize - 1, a, f, t, epochs, w)
@@ -93,7 +97,7 @@ pub fn step(
     w: &[u32],
     t: Tally,
 ) -> Tallied
-    ensures { λ r. ⌜ r ≡ eventTold (memory (now (words .entry)) (now (bytes .entry)) (now (table .entry))) (now (area .entry)) a
+    ensures { λ r. ⌜ r ≡ groupEventTallied (memory (now (words .entry)) (now (bytes .entry)) (now (table .entry))) (now (area .entry)) a
         (lent (windowsIn (now (w .entry))) t (now (out .entry))) e ⌝ }
     ensures { λ _. ⌜ now (words .exit)
         ≡ afterEvent (memory (now (words .entry)) (now (bytes .entry)) (now (table .entry))) (now (area .entry)) a
@@ -105,7 +109,7 @@ pub fn step(
         ≡ afterEvent (memory (now (words .entry)) (now (bytes .entry)) (now (table .entry))) (now (area .entry)) a
         (lent (windowsIn (now (w .entry))) t (now (out .entry))) e .table ⌝ }
     ensures { λ _. ⌜ now (area .exit)
-        ≡ areaAfter (memory (now (words .entry)) (now (bytes .entry)) (now (table .entry))) (now (area .entry)) a
+        ≡ groupAreaAfter (memory (now (words .entry)) (now (bytes .entry)) (now (table .entry))) (now (area .entry)) a
         (lent (windowsIn (now (w .entry))) t (now (out .entry))) e ⌝ }
     ensures { λ _. ⌜ now (out .exit)
         ≡ reportAfter (memory (now (words .entry)) (now (bytes .entry)) (now (table .entry))) (now (area .entry)) a
@@ -114,10 +118,10 @@ pub fn step(
         ≡ groupAfter (memory (now (words .entry)) (now (bytes .entry)) (now (table .entry))) (now (area .entry)) a
         (lent (windowsIn (now (w .entry))) t (now (out .entry))) e ⌝ }
 {
-    let seat = crate::seats::loaded_answer(words, bytes, table, a);
-    if !node::is_done(seat) {
+    let site_slot = crate::site_slots::loaded_answer(words, bytes, table, a);
+    if !node::is_done(site_slot) {
         return Tallied {
-            code: node::code(seat),
+            code: node::code(site_slot),
             tally: t,
         };
     }
@@ -162,10 +166,10 @@ fn load_rows(
             w,
         );
     }
-    if !crate::seats::is_number(a) {
+    if !crate::site_slots::is_number(a) {
         return node::code(Answer::NoSuchNode);
     }
-    if crate::seats::too_few(words, bytes, table) {
+    if crate::site_slots::too_few(words, bytes, table) {
         return node::code(Answer::NoRoom);
     }
     node::code(Answer::OutOfRange)
@@ -272,14 +276,14 @@ pub extern "C" fn hydra_group_load(
 
 // What three numbers are answered that make no event.
 fn no_event(words: &[u32], bytes: &[u8], table: &[u32], area: &[u8], out: &[u8], a: u32) -> u32
-    ensures { λ r. ⌜ r ≡ number (firstOf (loadedAnswer (memory (now (words .entry)) (now (bytes .entry)) (now (table .entry))) a)
-        (cond (ltb (length (now (area .entry))) areaSize || noPlace (now (out .entry))) NoRoom OutOfRange)) ⌝ }
+    ensures { λ r. ⌜ r ≡ number (firstRefusal (loadedAnswer (memory (now (words .entry)) (now (bytes .entry)) (now (table .entry))) a)
+        (cond (ltb (length (now (area .entry))) areaSize || reportTooShort (now (out .entry))) NoRoom OutOfRange)) ⌝ }
 {
-    let seat = crate::seats::loaded_answer(words, bytes, table, a);
-    if !node::is_done(seat) {
-        return node::code(seat);
+    let site_slot = crate::site_slots::loaded_answer(words, bytes, table, a);
+    if !node::is_done(site_slot) {
+        return node::code(site_slot);
     }
-    if (area.len() < Channel::AREA) | machine::turn::no_place(out) {
+    if (area.len() < SiteHeader::AREA) | machine::turn::report_too_short(out) {
         return node::code(Answer::NoRoom);
     }
     node::code(Answer::OutOfRange)
@@ -299,7 +303,7 @@ fn event_with(
     w: &[u32],
     t: Tally,
 ) -> Tallied
-    ensures { λ r. ⌜ r ≡ lineTold (memory (now (words .entry)) (now (bytes .entry)) (now (table .entry))) (now (area .entry)) a
+    ensures { λ r. ⌜ r ≡ groupLineTallied (memory (now (words .entry)) (now (bytes .entry)) (now (table .entry))) (now (area .entry)) a
         (lent (windowsIn (now (w .entry))) t (now (out .entry))) (eventAt event node with) ⌝ }
     ensures { λ _. ⌜ now (words .exit)
         ≡ afterLine (memory (now (words .entry)) (now (bytes .entry)) (now (table .entry))) (now (area .entry)) a
@@ -343,7 +347,7 @@ fn event_plain(
     with: u32,
     t: Tally,
 ) -> Tallied
-    ensures { λ r. ⌜ (r ≡ lineTold (memory (now (words .entry)) (now (bytes .entry)) (now (table .entry))) (now (area .entry)) a
+    ensures { λ r. ⌜ (r ≡ groupLineTallied (memory (now (words .entry)) (now (bytes .entry)) (now (table .entry))) (now (area .entry)) a
         (lent [] t (now (out .entry))) (eventAt event node with))
         × (now (words .exit) ≡ afterLine (memory (now (words .entry)) (now (bytes .entry)) (now (table .entry))) (now (area .entry)) a
         (lent [] t (now (out .entry))) (eventAt event node with) .words)
@@ -389,7 +393,7 @@ fn event_tallied(
     w: Windows,
     t: Tally,
 ) -> Tallied
-    ensures { λ r. ⌜ (r ≡ lineTold (memory (now (words .entry)) (now (bytes .entry)) (now (table .entry))) (now (area .entry)) a
+    ensures { λ r. ⌜ (r ≡ groupLineTallied (memory (now (words .entry)) (now (bytes .entry)) (now (table .entry))) (now (area .entry)) a
         (lent (listOf w) t (now (out .entry))) (eventAt event node with))
         × (now (words .exit) ≡ afterLine (memory (now (words .entry)) (now (bytes .entry)) (now (table .entry))) (now (area .entry)) a
         (lent (listOf w) t (now (out .entry))) (eventAt event node with) .words)
@@ -439,7 +443,8 @@ pub extern "C" fn hydra_group_event(
     tally: &mut Tally,
     reports: &mut [u8],
 ) -> u32
-    ensures { λ r. ⌜ (r ≡ number (lineAnswer (memory (now (words .entry)) (now (bytes .entry)) (now (table .entry))) (now (area .entry)) a
+    ensures { λ r. ⌜ (r ≡ number
+        (groupLineAnswer (memory (now (words .entry)) (now (bytes .entry)) (now (table .entry))) (now (area .entry)) a
         (lent (now (windows .entry)) (now (tally .entry)) (now (reports .entry))) (eventAt event node with)))
         × (now (words .exit) ≡ afterLine (memory (now (words .entry)) (now (bytes .entry)) (now (table .entry))) (now (area .entry)) a
         (lent (now (windows .entry)) (now (tally .entry)) (now (reports .entry))) (eventAt event node with) .words)
@@ -491,14 +496,15 @@ pub extern "C" fn hydra_group_node(
     j: u32,
     out: &mut [u8],
 ) -> u32
-    ensures { λ r. ⌜ r ≡ number (nodeAnswer (memory (now (words .entry)) (now (bytes .entry)) (now (table .entry))) a j (now (out .entry)))
+    ensures { λ r. ⌜ r ≡ number
+        (groupNodeAnswer (memory (now (words .entry)) (now (bytes .entry)) (now (table .entry))) a j (now (out .entry)))
         ⌝ }
     ensures { λ _. ⌜ now (out .exit)
         ≡ nodeOut (memory (now (words .entry)) (now (bytes .entry)) (now (table .entry))) a j (now (out .entry)) ⌝ }
 {
-    let seat = crate::seats::loaded_answer(words, bytes, table, a);
-    if !node::is_done(seat) {
-        return node::code(seat);
+    let site_slot = crate::site_slots::loaded_answer(words, bytes, table, a);
+    if !node::is_done(site_slot) {
+        return node::code(site_slot);
     }
     crate::calls::node_at(words, bytes, a as usize - 1, j, out)
 }

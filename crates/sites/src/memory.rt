@@ -6,7 +6,7 @@ ghost use mathlib.Core.List.{[]};
 ghost use Rattle.script.specs.declared.Parsed.the-variants.{Malformed, Good};
 ghost use Rattle.machine.specs.Layout.{store};
 ghost use Rattle.windows.specs.Copies.{windowsIn};
-ghost use Rattle.sites.specs.one.Memory.{memorySize, lacks, dayIn, dayPut, timedOf, keptOf};
+ghost use Rattle.sites.specs.one.Memory.{memorySize, memoryTooShort, dayIn, dayPut, timedOf, keptOf};
 ghost use Rattle.sites.specs.one.Calls.{loadingOf, afterLoad, timedAfterLoad, afterEvent, keptAfterEvent, reportAfterEvent};
 ghost use Rattle.sites.specs.one.Calls.{eventTallied};
 use crate::Tallied;
@@ -27,7 +27,7 @@ const WORDS: usize = 264;
 
 // Whether words or bytes are too few for a site with its day.
 pub(crate) fn lacks(words: &[u32], bytes: &[u8]) -> bool
-    ensures { λ r. ⌜ r ≡ lacks (store (now (words .entry)) (now (bytes .entry))) ⌝ }
+    ensures { λ r. ⌜ r ≡ memoryTooShort (store (now (words .entry)) (now (bytes .entry))) ⌝ }
 {
     (words.len() < WORDS) | (bytes.len() < BYTES)
 }

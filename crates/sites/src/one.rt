@@ -11,13 +11,13 @@ ghost use Rattle.lists.specs.Bytes.{Put};
 ghost use Rattle.allotment.specs.Allotment.{topRequest};
 ghost use Rattle.node.specs.Answers.{number};
 ghost use Rattle.machine.specs.Layout.{store};
-ghost use Rattle.machine.specs.Acts.{noPlace};
+ghost use Rattle.machine.specs.Acts.{noNodeAt};
 ghost use Rattle.machine.specs.Loading.{memberRead};
 ghost use Rattle.windows.specs.Copies.{windowsIn, listOf};
 ghost use Rattle.script.specs.events.Events.{eventAt};
 ghost use Rattle.sites.specs.one.Memory.{timedOf, keptOf};
 ghost use Rattle.sites.specs.one.Calls.{configFrom, rowFrom, tableFrom, loadingOf, afterLoad, timedAfterLoad, tallyAfterLoad};
-ghost use Rattle.sites.specs.one.Calls.{loadTallied, eventAnswer, afterEvent, keptAfterEvent, reportAfterEvent, eventTallied};
+ghost use Rattle.sites.specs.one.Calls.{loadTallied, siteEventAnswer, afterEvent, keptAfterEvent, reportAfterEvent, eventTallied};
 ghost use Rattle.sites.specs.one.Calls.{liveBytes, nodeBytes, showing, outNode, showingOf, outNodeOf};
 use crate::Tallied;
 use machine::BYTES;
@@ -275,7 +275,8 @@ pub extern "C" fn hydra_site_event(
     tally: &mut Tally,
     reports: &mut [u8],
 ) -> u32
-    ensures { λ r. ⌜ (r ≡ number (eventAnswer (store (now (words .entry)) (now (bytes .entry))) (now (area .entry)) (now (windows .entry))
+    ensures { λ r. ⌜ (r ≡ number
+        (siteEventAnswer (store (now (words .entry)) (now (bytes .entry))) (now (area .entry)) (now (windows .entry))
         (now (tally .entry)) (now (reports .entry)) (eventAt event node with)))
         × (now (words .exit) ≡ afterEvent (store (now (words .entry)) (now (bytes .entry))) (now (area .entry)) (now (windows .entry))
         (now (tally .entry)) (now (reports .entry)) (eventAt event node with) .words)
@@ -301,12 +302,13 @@ pub extern "C" fn hydra_site_event(
 
 // A live node's bytes to the start of an output.
 fn put_live(words: &[u32], bytes: &[u8], j: u32, out: &mut [u8]) -> usize
-    requires { ⌜ 90 ≤ length (now out) ⌝ }
+    requires { ⌜ (90 ≤ length (now out)) × (noNodeAt (store (now words) (now bytes)) j ≡ false) ⌝ }
     ensures { λ r. ⌜ Put (now (out .entry)) 0 (liveBytes (memberRead (store (now (words .entry)) (now (bytes .entry))) j .node))
         r (now (out .exit)) ⌝ }
 {
     let c = machine::core(words, bytes, j);
-    let owners = machine::owners(words, bytes, j);
+    let mut owners = [0u8; 80];
+    machine::tell_owners(words, bytes, j, &mut owners, 0);
     let version = lists::word_bytes(c.version);
     let flags = lists::word_bytes(c.flags);
     let a = text::put_byte(out, 0, 2);
@@ -328,7 +330,7 @@ fn put_rest(out: &mut [u8], up: bool) -> usize
 
 // The bytes of one of the N nodes to the start of an output.
 fn put_node(words: &[u32], bytes: &[u8], j: u32, out: &mut [u8]) -> usize
-    requires { ⌜ (90 ≤ length (now out)) × (noPlace (store (now words) (now bytes)) j ≡ false) ⌝ }
+    requires { ⌜ (90 ≤ length (now out)) × (noNodeAt (store (now words) (now bytes)) j ≡ false) ⌝ }
     ensures { λ r. ⌜ Put (now (out .entry)) 0 (nodeBytes (memberRead (store (now (words .entry)) (now (bytes .entry))) j))
         r (now (out .exit)) ⌝ }
 {
@@ -347,7 +349,7 @@ pub fn show(words: &[u32], bytes: &[u8], j: u32, out: &mut [u8]) -> u32
     if short | (out.len() < SHOWN) {
         return node::code(Answer::NoRoom);
     }
-    let k = machine::channel(words, bytes);
+    let k = machine::header(words, bytes);
     if k.outside(j) {
         return node::code(Answer::NoSuchNode);
     }

@@ -8,16 +8,17 @@ ghost use Rattle.site.specs.Counts.{packets};
 ghost use Rattle.site.specs.Answers.{areaSize};
 ghost use Rattle.machine.specs.Layout.{store, siteIn, wordsSize, bytesSize};
 ghost use Rattle.windows.specs.Copies.{windowsIn};
-ghost use Rattle.machine.specs.turn.Stored.{tooFew};
+ghost use Rattle.machine.specs.turn.Stored.{lentTooShort};
 ghost use Rattle.group.specs.Places.{topPlaces};
 ghost use Rattle.group.specs.Calls.{isSend};
 ghost use Rattle.sites.specs.many.Memory.{lent};
-ghost use Rattle.sites.specs.many.Inner.{isHear, lone, ownBy, toldBy, storeBy, siteBy, placesBy, areaBy, reportBy, listed};
-ghost use Rattle.sites.specs.many.Inner.{sendNumber, sendStore, sendPlaces, sendArea, hearAnswer, hearStore, heardBytes};
+ghost use Rattle.sites.specs.many.Inner.{isHear, oneSite, ownBy, stepResultBy, storeBy, siteBy, placesBy, areaBy, reportBy};
+ghost use Rattle.sites.specs.many.Inner.{listAnswer};
+ghost use Rattle.sites.specs.many.Inner.{sendNumber, sendStore, sendPlaces, sendArea, groupHearAnswer, hearStore, heardBytes};
 use crate::kinds;
 use crate::places;
 use machine::Day;
-use machine::Stepped;
+use machine::StepResult;
 use node::Answer;
 use site::Event;
 use tally::Tally;
@@ -28,16 +29,16 @@ pub(crate) fn packets(words: &[u32], bytes: &[u8]) -> u32
     ensures { λ r. ⌜ r ≡ packets (siteIn (store (now (words .entry)) (now (bytes .entry))) .sent) ⌝ }
     ensures within { λ r. ⌜ r ≤ 8160 ⌝ }
 {
-    let k = machine::channel(words, bytes);
+    let k = machine::header(words, bytes);
     k.packets()
 }
 
 // What is said of a list of windows, by the site's nodes and its day.
 fn listed(words: &[u32], bytes: &[u8], day: Day, w: &[u32]) -> Answer
     requires { ⌜ (wordsSize ≤ length (now words)) × (bytesSize ≤ length (now bytes)) ⌝ }
-    ensures { λ r. ⌜ r ≡ listed (store (now (words .entry)) (now (bytes .entry))) day (windowsIn (now (w .entry))) ⌝ }
+    ensures { λ r. ⌜ r ≡ listAnswer (store (now (words .entry)) (now (bytes .entry))) day (windowsIn (now (w .entry))) ⌝ }
 {
-    let k = machine::channel(words, bytes);
+    let k = machine::header(words, bytes);
     let f = k.config;
     if windows::list_ok(w, f.nodes, day.length) {
         return Answer::Done;
@@ -106,7 +107,7 @@ fn hear(
     p: u32,
 ) -> u32
     requires { ⌜ (wordsSize ≤ length (now words)) × (bytesSize ≤ length (now bytes)) × (length (now list) ≡ topPlaces) × (a ≤ 8) ⌝ }
-    ensures { λ r. ⌜ r ≡ number (hearAnswer (store (now (words .entry)) (now (bytes .entry)))
+    ensures { λ r. ⌜ r ≡ number (groupHearAnswer (store (now (words .entry)) (now (bytes .entry)))
         (ownBy (now (list .entry)) (now (area .entry)) a (store (now (words .entry)) (now (bytes .entry)))) o j p) ⌝ }
     ensures { λ _. ⌜ now (words .exit)
         ≡ hearStore (store (now (words .entry)) (now (bytes .entry)))
@@ -136,27 +137,28 @@ fn other(
     e: Event,
     w: &[u32],
     t: Tally,
-) -> Stepped
-    requires { ⌜ (tooFew (store (now words) (now bytes)) (now area) (now out) ≡ false) × (isSend e ≡ false) × (isHear e ≡ false) ⌝ }
-    ensures { λ r. ⌜ r ≡ toldBy (lone (store (now (words .entry)) (now (bytes .entry))) day a (now (list .entry)) (now (area .entry))) false
+) -> StepResult
+    requires { ⌜ (lentTooShort (store (now words) (now bytes)) (now area) (now out) ≡ false) × (isSend e ≡ false) × (isHear e ≡ false) ⌝ }
+    ensures { λ r. ⌜ r ≡ stepResultBy
+        (oneSite (store (now (words .entry)) (now (bytes .entry))) day a (now (list .entry)) (now (area .entry))) false
         (lent (windowsIn (now (w .entry))) t (now (out .entry))) e ⌝ }
     ensures { λ _. ⌜ now (words .exit)
-        ≡ storeBy (lone (store (now (words .entry)) (now (bytes .entry))) day a (now (list .entry)) (now (area .entry))) false
+        ≡ storeBy (oneSite (store (now (words .entry)) (now (bytes .entry))) day a (now (list .entry)) (now (area .entry))) false
         (lent (windowsIn (now (w .entry))) t (now (out .entry))) e .words ⌝ }
     ensures { λ _. ⌜ now (bytes .exit)
-        ≡ storeBy (lone (store (now (words .entry)) (now (bytes .entry))) day a (now (list .entry)) (now (area .entry))) false
+        ≡ storeBy (oneSite (store (now (words .entry)) (now (bytes .entry))) day a (now (list .entry)) (now (area .entry))) false
         (lent (windowsIn (now (w .entry))) t (now (out .entry))) e .bytes ⌝ }
     ensures { λ _. ⌜ now (list .exit)
-        ≡ placesBy (lone (store (now (words .entry)) (now (bytes .entry))) day a (now (list .entry)) (now (area .entry))) false
+        ≡ placesBy (oneSite (store (now (words .entry)) (now (bytes .entry))) day a (now (list .entry)) (now (area .entry))) false
         (lent (windowsIn (now (w .entry))) t (now (out .entry))) e ⌝ }
     ensures { λ _. ⌜ now (area .exit)
-        ≡ areaBy (lone (store (now (words .entry)) (now (bytes .entry))) day a (now (list .entry)) (now (area .entry))) false
+        ≡ areaBy (oneSite (store (now (words .entry)) (now (bytes .entry))) day a (now (list .entry)) (now (area .entry))) false
         (lent (windowsIn (now (w .entry))) t (now (out .entry))) e ⌝ }
     ensures { λ _. ⌜ now (out .exit)
-        ≡ reportBy (lone (store (now (words .entry)) (now (bytes .entry))) day a (now (list .entry)) (now (area .entry))) false
+        ≡ reportBy (oneSite (store (now (words .entry)) (now (bytes .entry))) day a (now (list .entry)) (now (area .entry))) false
         (lent (windowsIn (now (w .entry))) t (now (out .entry))) e ⌝ }
     ensures { λ _. ⌜ siteIn (store (now (words .exit)) (now (bytes .exit)))
-        ≡ siteBy (lone (store (now (words .entry)) (now (bytes .entry))) day a (now (list .entry)) (now (area .entry))) false
+        ≡ siteBy (oneSite (store (now (words .entry)) (now (bytes .entry))) day a (now (list .entry)) (now (area .entry))) false
         (lent (windowsIn (now (w .entry))) t (now (out .entry))) e ⌝ }
 {
     let r = machine::turn::step(words, bytes, area, day, e, w, t, out);
@@ -178,32 +180,33 @@ pub(crate) fn turn(
     e: Event,
     w: &[u32],
     t: Tally,
-) -> Stepped
+) -> StepResult
     requires { ⌜ (wordsSize ≤ length (now words)) × (bytesSize ≤ length (now bytes)) × (length (now list) ≡ topPlaces) × (a ≤ 8) ⌝ }
-    ensures { λ r. ⌜ r ≡ toldBy (lone (store (now (words .entry)) (now (bytes .entry))) day a (now (list .entry)) (now (area .entry))) full
+    ensures { λ r. ⌜ r ≡ stepResultBy
+        (oneSite (store (now (words .entry)) (now (bytes .entry))) day a (now (list .entry)) (now (area .entry))) full
         (lent (windowsIn (now (w .entry))) t (now (out .entry))) e ⌝ }
     ensures { λ _. ⌜ now (words .exit)
-        ≡ storeBy (lone (store (now (words .entry)) (now (bytes .entry))) day a (now (list .entry)) (now (area .entry))) full
+        ≡ storeBy (oneSite (store (now (words .entry)) (now (bytes .entry))) day a (now (list .entry)) (now (area .entry))) full
         (lent (windowsIn (now (w .entry))) t (now (out .entry))) e .words ⌝ }
     ensures { λ _. ⌜ now (bytes .exit)
-        ≡ storeBy (lone (store (now (words .entry)) (now (bytes .entry))) day a (now (list .entry)) (now (area .entry))) full
+        ≡ storeBy (oneSite (store (now (words .entry)) (now (bytes .entry))) day a (now (list .entry)) (now (area .entry))) full
         (lent (windowsIn (now (w .entry))) t (now (out .entry))) e .bytes ⌝ }
     ensures { λ _. ⌜ now (list .exit)
-        ≡ placesBy (lone (store (now (words .entry)) (now (bytes .entry))) day a (now (list .entry)) (now (area .entry))) full
+        ≡ placesBy (oneSite (store (now (words .entry)) (now (bytes .entry))) day a (now (list .entry)) (now (area .entry))) full
         (lent (windowsIn (now (w .entry))) t (now (out .entry))) e ⌝ }
     ensures { λ _. ⌜ now (area .exit)
-        ≡ areaBy (lone (store (now (words .entry)) (now (bytes .entry))) day a (now (list .entry)) (now (area .entry))) full
+        ≡ areaBy (oneSite (store (now (words .entry)) (now (bytes .entry))) day a (now (list .entry)) (now (area .entry))) full
         (lent (windowsIn (now (w .entry))) t (now (out .entry))) e ⌝ }
     ensures { λ _. ⌜ now (out .exit)
-        ≡ reportBy (lone (store (now (words .entry)) (now (bytes .entry))) day a (now (list .entry)) (now (area .entry))) full
+        ≡ reportBy (oneSite (store (now (words .entry)) (now (bytes .entry))) day a (now (list .entry)) (now (area .entry))) full
         (lent (windowsIn (now (w .entry))) t (now (out .entry))) e ⌝ }
     ensures { λ _. ⌜ siteIn (store (now (words .exit)) (now (bytes .exit)))
-        ≡ siteBy (lone (store (now (words .entry)) (now (bytes .entry))) day a (now (list .entry)) (now (area .entry))) full
+        ≡ siteBy (oneSite (store (now (words .entry)) (now (bytes .entry))) day a (now (list .entry)) (now (area .entry))) full
         (lent (windowsIn (now (w .entry))) t (now (out .entry))) e ⌝ }
 {
     if machine::turn::too_few(words, bytes, area, out) {
         let code = node::code(Answer::NoRoom);
-        return Stepped {
+        return StepResult {
             code,
             day,
             tally: t,
@@ -212,7 +215,7 @@ pub(crate) fn turn(
     if kinds::is_send(e) {
         let o = listed(words, bytes, day, w);
         let code = send(words, bytes, list, area, a, o, full, kinds::node_of(e));
-        return Stepped {
+        return StepResult {
             code,
             day,
             tally: t,
@@ -230,7 +233,7 @@ pub(crate) fn turn(
             kinds::node_of(e),
             kinds::packet_in(e),
         );
-        return Stepped {
+        return StepResult {
             code,
             day,
             tally: t,

@@ -16,8 +16,8 @@ use Rattle.site.specs.Events.{isEnd}
 use Rattle.site.specs.Model.{Site}
 use Rattle.site.specs.declared.Event.{Event}
 use Rattle.site.specs.declared.Event.the-variants.{End}
-use Rattle.tally.specs.Counting.{tallyOk, counted}
-use Rattle.tally.specs.Ends.{schedulesAt, tallyAt, talliedAnswer, talliedSite, talliedArea, tallyAfter}
+use Rattle.tally.specs.Counting.{tallyOk, epochCounted}
+use Rattle.tally.specs.Ends.{schedulesOf, tallyAt, talliedAnswer, talliedSite, talliedArea, tallyAfter}
 use Rattle.tally.specs.declared.Tally.{Tally}
 use Rattle.tally.proofs.Valid.{counted-valid}
 
@@ -40,8 +40,8 @@ module _ (s : Site) (l : List ℕ) (t : Tally) (ok : tallyOk t ≡ true) where
 
 at-valid : (s : Site) (t : Tally) → tallyOk t ≡ true → tallyOk (tallyAt s t) ≡ true
 unfolding tallyAt
-at-valid s t ok = by-test (λ (x : Tally). tallyOk x ≡ true) (eqb (s .place) 0) (counted t (schedulesAt s)) t
-    (λ d. counted-valid t (schedulesAt s) ok) (λ d. ok)
+at-valid s t ok = by-test (λ (x : Tally). tallyOk x ≡ true) (eqb (s .place) 0) (epochCounted t (schedulesOf s)) t
+    (λ d. counted-valid t (schedulesOf s) ok) (λ d. ok)
 
 pub stays-valid : (s : Site) (l : List ℕ) (t : Tally) (e : Event) → tallyOk t ≡ true → tallyOk (tallyAfter s l t e) ≡ true
 unfolding tallyAfter

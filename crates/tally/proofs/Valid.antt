@@ -14,7 +14,8 @@ use Rattle.lists.specs.All.{allBelow, tab}
 use Rattle.lists.proofs.Laws.{all-at, all-make, getD-tab, tab-ext}
 use Rattle.allotment.specs.Model.{Schedule}
 use Rattle.tally.specs.Claims.{claims, heldBy, sum, claimed}
-use Rattle.tally.specs.Counting.{topEpochs, first, slotsAt, heldAt, entryOk, tallyOk, isFull, added, counted, addedBy, countedBy}
+use Rattle.tally.specs.Counting.{topEpochs, firstTally, slotsAt, heldAt, tallyEntryOk, tallyOk, tallyFull, added, epochCounted}
+use Rattle.tally.specs.Counting.{addedBy, countedBy}
 use Rattle.tally.specs.declared.Tally.{Tally}
 use Rattle.tally.proofs.Sums.{digit-le, howMany-le, sum-le, sum-ext, sum-add, sums-meet}
 
@@ -32,18 +33,18 @@ pub valid : (t : Tally) → tallyOk t ≡ true → Valid t
 unfolding tallyOk
 valid t e =
     let r = and-right (leb (t .epochs) topEpochs) _ e in
-    let a = all-at 32 (entryOk t) (and-left (allBelow 32 (entryOk t)) _ r) in
+    let a = all-at 32 (tallyEntryOk t) (and-left (allBelow 32 (tallyEntryOk t)) _ r) in
     record {
       epochs = leb-true _ _ (and-left _ _ e);
       held = λ i l. leb-true _ _ (and-left _ _ (a i l));
       slots = λ i l. leb-true _ _ (and-right (leb (heldAt t i) (t .epochs)) _ (a i l));
-      total = eqb-true _ _ (and-right (allBelow 32 (entryOk t)) _ r);
+      total = eqb-true _ _ (and-right (allBelow 32 (tallyEntryOk t)) _ r);
     }
 
 pub valid-ok : (t : Tally) → Valid t → tallyOk t ≡ true
 unfolding tallyOk
 valid-ok t v =
-    both (le-leb _ _ (v .epochs)) (both (all-make 32 (entryOk t) (λ i l. both (le-leb _ _ (v .held i l)) (le-leb _ _ (v .slots i l))))
+    both (le-leb _ _ (v .epochs)) (both (all-make 32 (tallyEntryOk t) (λ i l. both (le-leb _ _ (v .held i l)) (le-leb _ _ (v .slots i l))))
     (eq-eqb _ _ (v .total)))
 
 -- no node has more than 8,000,000 slots, and the site not more than 256,000,000
@@ -109,31 +110,31 @@ added-valid t l v h =
           omega arith;
     }
 
-pub first-valid : tallyOk first ≡ true
+pub first-valid : tallyOk firstTally ≡ true
 unfolding tallyOk allBelow sum
 first-valid = refl
 
-pub not-full : (t : Tally) → Valid t → not (isFull t) ≡ true → t .epochs < topEpochs
+pub not-full : (t : Tally) → Valid t → not (tallyFull t) ≡ true → t .epochs < topEpochs
 not-full t v e =
     let a = v .epochs in
-    let b = eqb-false _ _ (not-true (isFull t) e) in
+    let b = eqb-false _ _ (not-true (tallyFull t) e) in
     same-or-not (t .epochs) topEpochs (λ z. absurd (b z)) (λ z. omega (arith, z))
 
 -- an epoch keeps it valid
-pub counted-valid : (t : Tally) (l : List Schedule) → tallyOk t ≡ true → tallyOk (counted t l) ≡ true
-unfolding counted
+pub counted-valid : (t : Tally) (l : List Schedule) → tallyOk t ≡ true → tallyOk (epochCounted t l) ≡ true
+unfolding epochCounted
 counted-valid t l e =
-    by-test (λ (x : Tally). tallyOk x ≡ true) (tallyOk t && not (isFull t)) (added t l) t
+    by-test (λ (x : Tally). tallyOk x ≡ true) (tallyOk t && not (tallyFull t)) (added t l) t
     (λ f. valid-ok _ (added-valid t l (valid t e) (not-full t (valid t e) (and-right (tallyOk t) _ f))))
     (λ f. e)
 
 -- and counts it, up to 100,000
-pub counted-epochs : (t : Tally) (l : List Schedule) → tallyOk t ≡ true → counted t l .epochs ≡ min (t .epochs + 1) topEpochs
-unfolding counted
+pub counted-epochs : (t : Tally) (l : List Schedule) → tallyOk t ≡ true → epochCounted t l .epochs ≡ min (t .epochs + 1) topEpochs
+unfolding epochCounted
 counted-epochs t l e =
-    by-test (λ (x : Tally). x .epochs ≡ min (t .epochs + 1) topEpochs) (tallyOk t && not (isFull t)) (added t l) t
+    by-test (λ (x : Tally). x .epochs ≡ min (t .epochs + 1) topEpochs) (tallyOk t && not (tallyFull t)) (added t l) t
     (λ f. let a = epochs-added t l in let b = not-full t (valid t e) (and-right (tallyOk t) _ f) in omega arith)
-    (λ f. let a = eqb-true (t .epochs) topEpochs (not-false (isFull t) (and-rest (tallyOk t) _ f e)) in omega arith)
+    (λ f. let a = eqb-true (t .epochs) topEpochs (not-false (tallyFull t) (and-rest (tallyOk t) _ f e)) in omega arith)
 
 -- counted by nodes: from the numbers of slots that the schedules give
 module _ (t : Tally) (l : List Schedule) where
@@ -150,6 +151,6 @@ module _ (t : Tally) (l : List Schedule) where
       (λ i. heldAt t i + digit (ltb 0 (heldBy l i))) (λ i h. ap (λ (x : ℕ). heldAt t i + digit (ltb 0 x)) (number i h)) in
       λ i. record { epochs = t .epochs + 1; total = t .total + s i; slots = p i; held = q i }
 
-  pub counted-by : countedBy t (tab 32 (heldBy l)) ≡ counted t l
-  unfolding countedBy counted
-  counted-by = ap (λ (x : Tally). cond (tallyOk t && not (isFull t)) x t) added-by
+  pub counted-by : countedBy t (tab 32 (heldBy l)) ≡ epochCounted t l
+  unfolding countedBy epochCounted
+  counted-by = ap (λ (x : Tally). cond (tallyOk t && not (tallyFull t)) x t) added-by

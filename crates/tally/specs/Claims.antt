@@ -10,12 +10,12 @@ use Rattle.allotment.specs.Allotment.{topSlots, ownerOf, noSchedule}
 use Rattle.allotment.specs.Model.{Schedule}
 
 -- a schedule gives the slot at index k to the node at index i
-abbrev pub gives : Schedule → ℕ → ℕ → Bool
-gives s k i = eqb (ownerOf s k) (i + 1)
+abbrev pub givesSlot : Schedule → ℕ → ℕ → Bool
+givesSlot s k i = eqb (ownerOf s k) (i + 1)
 
 -- the node at index i claims the slot at index k: its own schedule gives it to it
 abbrev pub claims : List Schedule → ℕ → ℕ → Bool
-claims l k i = gives (getD l i noSchedule) k i
+claims l k i = givesSlot (getD l i noSchedule) k i
 
 -- how many slots the node at index i holds by its own schedule
 abbrev pub heldBy : List Schedule → ℕ → ℕ

@@ -17,8 +17,8 @@ abbrev pub topEpochs : ℕ
 topEpochs = 100000
 
 -- set anew: the epoch that begins with the load is the first one, and nobody holds a slot in it
-abbrev pub first : Tally
-first = record { epochs = 1; total = 0; slots = replicate 32 0; held = replicate 32 0 }
+abbrev pub firstTally : Tally
+firstTally = record { epochs = 1; total = 0; slots = replicate 32 0; held = replicate 32 0 }
 
 -- of the node at index i: the slots that it held, and in how many epochs it held any
 abbrev pub slotsAt : Tally → ℕ → ℕ
@@ -28,16 +28,16 @@ abbrev pub heldAt : Tally → ℕ → ℕ
 heldAt t i = getD (t .held) i 0
 
 -- the node at index i held slots in no more epochs than were counted, and on average no more than 80 in each of these
-abbrev pub entryOk : Tally → ℕ → Bool
-entryOk t i = leb (heldAt t i) (t .epochs) && leb (slotsAt t i) (topSlots * heldAt t i)
+abbrev pub tallyEntryOk : Tally → ℕ → Bool
+tallyEntryOk t i = leb (heldAt t i) (t .epochs) && leb (slotsAt t i) (topSlots * heldAt t i)
 
 -- what is not refused as 14: each entry so, and the total is the nodes' sum
 unfoldable pub tallyOk : Tally → Bool
-tallyOk t = leb (t .epochs) topEpochs && (allBelow 32 (entryOk t) && eqb (t .total) (sum 32 (slotsAt t)))
+tallyOk t = leb (t .epochs) topEpochs && (allBelow 32 (tallyEntryOk t) && eqb (t .total) (sum 32 (slotsAt t)))
 
 -- 100,000 epochs are counted
-abbrev pub isFull : Tally → Bool
-isFull t = eqb (t .epochs) topEpochs
+abbrev pub tallyFull : Tally → Bool
+tallyFull t = eqb (t .epochs) topEpochs
 
 -- one epoch more, from the schedules with which it begins; the total grows by the slots summed slot by slot
 unfoldable pub added : Tally → List Schedule → Tally
@@ -50,8 +50,8 @@ added t l =
     }
 
 -- a full tally stays as it is, and so does one that is refused
-unfoldable pub counted : Tally → List Schedule → Tally
-counted t l = cond (tallyOk t && not (isFull t)) (added t l) t
+unfoldable pub epochCounted : Tally → List Schedule → Tally
+epochCounted t l = cond (tallyOk t && not (tallyFull t)) (added t l) t
 
 -- the same from how many slots each node holds, by node: law `counted-by` (proofs/Valid)
 unfoldable pub addedBy : Tally → List ℕ → Tally
@@ -64,4 +64,4 @@ addedBy t h =
     }
 
 unfoldable pub countedBy : Tally → List ℕ → Tally
-countedBy t h = cond (tallyOk t && not (isFull t)) (addedBy t h) t
+countedBy t h = cond (tallyOk t && not (tallyFull t)) (addedBy t h) t

@@ -19,7 +19,7 @@ use Rattle.site.specs.Events.{isEnd}
 use Rattle.site.specs.Model.{Member}
 use Rattle.site.specs.Model.{Site}
 use Rattle.site.specs.declared.Event.{Event}
-use Rattle.tally.specs.Counting.{tallyOk, counted}
+use Rattle.tally.specs.Counting.{tallyOk, epochCounted}
 use Rattle.tally.specs.declared.Tally.{Tally}
 
 -- the schedule by which a member is counted: a live node's own; one that is waiting or down holds no slot
@@ -27,12 +27,12 @@ abbrev pub ownSchedule : Member → Schedule
 ownSchedule m = cond (isLive m) (m .node .schedule) free
 
 -- by node
-unfoldable pub schedulesAt : Site → List Schedule
-schedulesAt s = tab 32 (λ i. ownSchedule (getD (s .members) i nobody))
+unfoldable pub schedulesOf : Site → List Schedule
+schedulesOf s = tab 32 (λ i. ownSchedule (getD (s .members) i nobody))
 
 -- the tally as a round of the site begins: its first round begins the epoch
 unfoldable pub tallyAt : Site → Tally → Tally
-tallyAt s t = cond (eqb (s .place) 0) (counted t (schedulesAt s)) t
+tallyAt s t = cond (eqb (s .place) 0) (epochCounted t (schedulesOf s)) t
 
 -- the answer to an event: to an end 14 where nothing else is refused; only an end looks at the tally
 unfoldable pub talliedAnswer : Site → List ℕ → Tally → Event → Answer

@@ -3,7 +3,7 @@ ghost use mathlib.Core.Path.{_≡_};
 ghost use mathlib.Core.Bool.{true};
 ghost use Prim.Native.Nat.{_≤_, _<_};
 ghost use Rattle.words.specs.Bits.{digit};
-ghost use Rattle.tally.specs.Counting.{topEpochs, first, entryOk, tallyOk, isFull, addedBy, countedBy};
+ghost use Rattle.tally.specs.Counting.{topEpochs, firstTally, tallyEntryOk, tallyOk, tallyFull, addedBy, countedBy};
 
 // Epochs counted, the site's slots, and by node the slots that it held and the epochs in which it held one. The fields lie as C has them.
 #[repr(C)]
@@ -41,7 +41,7 @@ impl Tally {
 
     // A tally set anew.
     pub fn first() -> Tally
-        ensures { λ r. ⌜ r ≡ first ⌝ }
+        ensures { λ r. ⌜ r ≡ firstTally ⌝ }
     {
         Tally {
             epochs: 1,
@@ -53,7 +53,7 @@ impl Tally {
 
     // Whether it has counted all the epochs that it can.
     pub fn is_full(self) -> bool
-        ensures { λ r. ⌜ r ≡ isFull self ⌝ }
+        ensures { λ r. ⌜ r ≡ tallyFull self ⌝ }
     {
         self.epochs == Tally::EPOCHS
     }
@@ -61,7 +61,7 @@ impl Tally {
     // The numbers of the node at index i are within their bounds.
     fn entry_ok(self, i: usize) -> bool
         requires { ⌜ i < 32 ⌝ }
-        ensures { λ r. ⌜ r ≡ entryOk self i ⌝ }
+        ensures { λ r. ⌜ r ≡ tallyEntryOk self i ⌝ }
     {
         let slots = self.slots;
         let held = self.held;

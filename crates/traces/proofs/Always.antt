@@ -17,7 +17,7 @@ use Rattle.site.specs.Members.{setupOf, memberAt, downMember}
 use Rattle.site.specs.Load.{loadAnswer, loadedSite}
 use Rattle.site.specs.Answers.{answerOf}
 use Rattle.site.specs.Steps.{takenSite, wantedSite, crashedSite, restartedSite, endedSite, nextSite, nextArea, siteAfter, areaAfter}
-use Rattle.site.specs.Run.{World, after, run}
+use Rattle.site.specs.Run.{RunState, after, run}
 use Rattle.node.specs.declared.Config.{Config}
 use Rattle.site.specs.declared.Table.{Table}
 use Rattle.site.specs.Model.{Member}
@@ -134,7 +134,7 @@ accept {f} {past} {s} {area} (Restart j flags) h d =
     }
 
 -- each event does, refused or not
-pub step : {f : Config} {past : Past} (w : World) (e : Event) → Kept f past (w .site) (w .area)
+pub step : {f : Config} {past : Past} (w : RunState) (e : Event) → Kept f past (w .site) (w .area)
     → Kept f (pastAfter past w e) (after w e .site) (after w e .area)
 unfolding pastAfter siteAfter areaAfter
 step {f} {past} w e h = go (isDone (answerOf (w .site) (w .area) e)) refl
@@ -146,7 +146,7 @@ step {f} {past} w e h = go (isDone (answerOf (w .site) (w .area) e)) refl
     go false d = h
 
 -- and so does each list of events
-steps : {f : Config} {past : Past} (w : World) (es : List Event) → Kept f past (w .site) (w .area)
+steps : {f : Config} {past : Past} (w : RunState) (es : List Event) → Kept f past (w .site) (w .area)
     → Kept f (trace past w es) (run w es .site) (run w es .area)
 unfolding trace run
 steps w [] h = h

@@ -10,7 +10,7 @@ use Rattle.wire.specs.Reads.{hasPart}
 use Rattle.site.specs.Counts.{packets}
 use Rattle.site.specs.Answers.{answerOf}
 use Rattle.site.specs.Steps.{areaAfter}
-use Rattle.site.specs.Run.{World}
+use Rattle.site.specs.Run.{RunState}
 use Rattle.node.specs.declared.Config.{Config}
 use Rattle.site.specs.declared.Event.the-variants.{Send}
 use Rattle.site.proofs.Accepted.{answered, send-accepted}
@@ -20,7 +20,7 @@ use Rattle.traces.specs.Counted.{Lies, Room, Counted}
 use Rattle.traces.proofs.Sound.{send-room}
 use Rattle.traces.proofs.Always.{Kept, always}
 
-module _ {f : Config} {past : Past} (w : World) (h : Kept f past (w .site) (w .area)) where
+module _ {f : Config} {past : Past} (w : RunState) (h : Kept f past (w .site) (w .area)) where
   lies : (j : ℕ) → answerOf (w .site) (w .area) (Send j) ≡ Done → Lies w j
   unfolding areaAfter
   lies j d =
@@ -33,7 +33,7 @@ module _ {f : Config} {past : Past} (w : World) (h : Kept f past (w .site) (w .a
       }
 
   room : Room w
-  room = record { each = λ j. h .sound .counts .most (j - 1); all = packets-most (w .site .sent) (h .sound .counts); lies = lies }
+  room = record { each = λ j. h .sound .counters .most (j - 1); all = packets-most (w .site .sent) (h .sound .counters); lies = lies }
 
 pub counted : Counted
 counted = record { room = λ f t d area es. room _ (always f t d area es) }

@@ -25,7 +25,7 @@ use Rattle.node.proofs.Tested.{hear-agreed}
 use Rattle.wire.specs.Layout.{packetIn}
 use Rattle.wire.specs.Reads.{packetAnswer, partOf}
 use Rattle.site.specs.Counts.{packets}
-use Rattle.site.specs.Members.{channelOf, memberAt, outside, isLive}
+use Rattle.site.specs.Members.{headerOf, memberAt, outside, isLive}
 use Rattle.site.specs.Parts.{packetPart}
 use Rattle.site.specs.Answers.{areaSize, isPacket, answerPart, siteHear, answerOf}
 use Rattle.node.specs.declared.Config.{Config}
@@ -86,10 +86,10 @@ module _ {f : Config} {past : Past} {s : Site} {area : List ℕ} (h : Kept f pas
 -- the answer to any hearing, beside the site and the area that a list of events leaves
 module _ {f : Config} {past : Past} {s : Site} {area : List ℕ} (h : Kept f past s area) (j p : ℕ) where
   abbrev part : List ℕ
-  part = packetPart (channelOf s) area p
+  part = packetPart (headerOf s) area p
 
-  heard-part : outside (s .config) j ≡ false → s .negotiates ≡ true → isLive (memberAt s j) ≡ true → isPacket (channelOf s) p ≡ true
-      → answerPart (channelOf s) (memberAt s j) part ≡ cond (eqb (packetIn part .sender) j) OwnPacket Done
+  heard-part : outside (s .config) j ≡ false → s .negotiates ≡ true → isLive (memberAt s j) ≡ true → isPacket (headerOf s) p ≡ true
+      → answerPart (headerOf s) (memberAt s j) part ≡ cond (eqb (packetIn part .sender) j) OwnPacket Done
   unfolding answerPart
   heard-part o t l k =
       let from = leb-true 1 p (and-left (leb 1 p) (leb p (packets (s .sent))) k) in
@@ -106,7 +106,7 @@ module _ {f : Config} {past : Past} {s : Site} {area : List ℕ} (h : Kept f pas
       (λ _. past-test (outside (s .config) j) NoSuchNode _ _
       (λ o. past-test (not (s .negotiates)) WrongPhase _ _
       (λ t. past-test (not (isLive (memberAt s j))) NotLive _ _
-      (λ l. past-test (not (isPacket (channelOf s) p)) NoSuchPacket _ _
+      (λ l. past-test (not (isPacket (headerOf s) p)) NoSuchPacket _ _
       (λ k. heard-part o (not-false _ t) (not-false _ l) (not-false _ k))))))
 
 -- the law

@@ -41,23 +41,23 @@ pub record Opens (b : Site) : Type 0 where
   pub none : packets (b .sent) ≡ 0
   pub round : (i : ℕ) → isLive (member b i) ≡ true → JustOpened (member b i .node)
   pub mark : b .place ≡ 0 → (i : ℕ) → isLive (member b i) ≡ true → member b i .node .epoch .updated ≡ false
-  pub counts : b .place ≡ 0 → (i : ℕ) → isLive (member b i) ≡ true → member b i .node .epoch .counts ≡ replicate 32 0
+  pub counters : b .place ≡ 0 → (i : ℕ) → isLive (member b i) ≡ true → member b i .node .epoch .counters ≡ replicate 32 0
 
 -- of one member; `first` where the round is its epoch's first
 record Op (first : Bool) (m : Member) : Type 0 where
   round : isLive m ≡ true → JustOpened (m .node)
   mark : first ≡ true → isLive m ≡ true → m .node .epoch .updated ≡ false
-  counts : first ≡ true → isLive m ≡ true → m .node .epoch .counts ≡ replicate 32 0
+  counters : first ≡ true → isLive m ≡ true → m .node .epoch .counters ≡ replicate 32 0
 
 op-begun : {first : Bool} (m : Member) → Begun (m .node) → Op first m
 op-begun m b = record {
   round = λ _. just-opened (m .node) (b .round);
   mark = λ _ _. ap (λ (e : Epoch). e .updated) (b .epoch);
-  counts = λ _ _. ap (λ (e : Epoch). e .counts) (b .epoch);
+  counters = λ _ _. ap (λ (e : Epoch). e .counters) (b .epoch);
 }
 
 op-other : {first : Bool} (m : Member) → isLive m ≡ false → Op first m
-op-other m e = record { round = λ l. clash (isLive m) l e; mark = λ _ l. clash (isLive m) l e; counts = λ _ l. clash (isLive m) l e }
+op-other m e = record { round = λ l. clash (isLive m) l e; mark = λ _ l. clash (isLive m) l e; counters = λ _ l. clash (isLive m) l e }
 
 op-at : {first : Bool} {m n : Member} → m ≡ n → Op first n → Op first m
 op-at e h = rw e h
@@ -67,7 +67,7 @@ op-round : {first : Bool} (m : Member) → first ≡ false → Op first (withNod
 op-round {first} m e = record {
   round = λ l. end-opened (m .node) (awake (withNode m (endedNode (m .node))) l);
   mark = λ y. clash first y e;
-  counts = λ y. clash first y e;
+  counters = λ y. clash first y e;
 }
 
 pub opens-end : {s : Site} {area : List ℕ} {air : List Packet} → Sound s area air → s .negotiates ≡ false → Opens (endedSite s)
@@ -77,7 +77,7 @@ opens-end {s} sound t = record {
   none = packets-none;
   round = λ i. rw (member-ended s i) (ops i .round);
   mark = λ e i. rw (member-ended s i) (ops i .mark (first e));
-  counts = λ e i. rw (member-ended s i) (ops i .counts (first e));
+  counters = λ e i. rw (member-ended s i) (ops i .counters (first e));
 }
   where
     l : Bool
@@ -107,7 +107,7 @@ opens-load f t = record {
   none = packets-none;
   round = λ i. ops i .round;
   mark = λ e i. ops i .mark refl;
-  counts = λ e i. ops i .counts refl;
+  counters = λ e i. ops i .counters refl;
 }
   where
     ops : (i : ℕ) → Op true (getD (tab 32 (loadedMember f t)) i nobody)

@@ -32,7 +32,7 @@ use Rattle.range.proofs.Laws as ranged
 use Rattle.wire.specs.Layout.{packetBytes, packetIn}
 use Rattle.wire.specs.Reads.{packetOk, packetAnswer, partOf, placed, hasPart}
 use Rattle.wire.proofs.Laws as wire
-use Rattle.site.specs.Members.{nobody, setupOf, channelOf, memberAt, isLive, withNode, downMember, put}
+use Rattle.site.specs.Members.{nobody, setupOf, headerOf, memberAt, isLive, withNode, downMember, put}
 use Rattle.site.specs.Parts.{packetPart}
 use Rattle.site.specs.Load.{loadedMember, loadedSite, loadAnswer}
 use Rattle.site.specs.Counts.{topSent, sentOf, packets}
@@ -69,7 +69,7 @@ pub record Sound (s : Site) (area : List ℕ) (air : List Packet) : Type 0 where
   pub config : configOk (s .config) ≡ true
   pub place : s .place < s .config .rounds
   pub each : (i : ℕ) → Sits (s .config) (s .negotiates) (s .place) i (getD (s .members) i nobody)
-  pub counts : Counts (s .sent)
+  pub counters : Counts (s .sent)
   pub count : length air ≡ packets (s .sent)
   pub parts : (p : ℕ) → p < length air → Part (s .config .nodes) area p (getD air p noPacket)
   pub quiet : s .negotiates ≡ false → air ≡ []
@@ -114,7 +114,7 @@ put-sound {s} {area} {air} j m h k =
       config = h .config;
       place = h .place;
       each = every-set (Sits (s .config) (s .negotiates) (s .place)) nobody (s .members) (j - 1) m (h .each) k;
-      counts = h .counts;
+      counters = h .counters;
       count = h .count;
       parts = h .parts;
       quiet = h .quiet;
@@ -129,7 +129,7 @@ below-32 s j h a = let i = inside s j (a .node) in omega (arith, i .0, i .1, bou
 -- a packet of a node that has sent fewer than 8 has its part in the area
 pub send-room : {s : Site} {area : List ℕ} {air : List Packet} (j : ℕ) → Sound s area air → Acts s j → sentOf (s .sent) j < topSent
     → areaSize ≤ length area → hasPart area (packets (s .sent)) ≡ true
-send-room {s} {area} j h a l r = part-there area (s .sent) (packets-room (s .sent) j (h .counts) (below-32 s j h a) l) r
+send-room {s} {area} j h a l r = part-there area (s .sent) (packets-room (s .sent) j (h .counters) (below-32 s j h a) l) r
 
 pub send-sound : {s : Site} {area : List ℕ} {air : List Packet} (j : ℕ) → Sound s area air → Acts s j → sentOf (s .sent) j < topSent
     → areaSize ≤ length area
@@ -141,15 +141,15 @@ send-sound {s} {area} {air} j h a l r =
       config = h .config;
       place = h .place;
       each = h .each;
-      counts = more-counts (s .sent) j (h .counts) l;
+      counters = more-counts (s .sent) j (h .counters) l;
       count = length-append air (x ∷ []) ∙ ap (λ (k : ℕ). k + 1) (h .count)
-          ∙ sym (packets-more (s .sent) j (omega (arith, h .counts .long, seat)));
+          ∙ sym (packets-more (s .sent) j (omega (arith, h .counters .long, nodeIndex)));
       parts = λ p k. ⊎-elim (λ e. newest p e) (λ m. older p m) (eq-or-lt-of-le (le-of-suc-le-suc (up p k)));
       quiet = λ e. never (sym (a .phase) ∙ e);
     })
   where
-    seat : j - 1 < 32
-    seat = below-32 s j h a
+    nodeIndex : j - 1 < 32
+    nodeIndex = below-32 s j h a
 
     n : Node
     n = memberAt s j .node
@@ -195,7 +195,7 @@ send-sound {s} {area} {air} j h a l r =
 
 -- the packet that is heard is the one that was sent
 pub hear-is : {s : Site} {area : List ℕ} {air : List Packet} (j p : ℕ) → Sound s area air → Hears s area j p
-    → (p - 1 < length air) × (packetIn (packetPart (channelOf s) area p) ≡ getD air (p - 1) noPacket)
+    → (p - 1 < length air) × (packetIn (packetPart (headerOf s) area p) ≡ getD air (p - 1) noPacket)
 hear-is {s} {area} {air} j p h a =
     let l : p - 1 < length air = omega (arith, h .count, a .from, a .to) in
     (l, part-packet (bounds (s .config) (h .config) .nodes-to) (h .parts (p - 1) l))
@@ -205,7 +205,7 @@ pub hear-sound : {s : Site} {area : List ℕ} {air : List Packet} (j p : ℕ) �
 unfolding heardSite
 hear-sound {s} {area} {air} j p h a =
     let e = hear-is j p h a in
-    let q = packetIn (packetPart (channelOf s) area p) in
+    let q = packetIn (packetPart (headerOf s) area p) in
     let m = memberAt s j in
     let o : keep.PacketRanges q (s .config .nodes) = subst (λ (x : Packet). keep.PacketRanges x (s .config .nodes)) (sym (e .1))
     (part-sound (h .parts (p - 1) (e .0))) in
@@ -218,7 +218,7 @@ close-sound {s} {area} {air} h t =
       config = h .config;
       place = h .place;
       each = λ i. rw (List·getD-map closeMember (s .members) i nobody) (one i (getD (s .members) i nobody) (h .each i));
-      counts = none-counts;
+      counters = none-counts;
       count = sym packets-none;
       parts = λ p k. absurd (not-suc-le-zero k);
       quiet = λ _. refl;
@@ -263,7 +263,7 @@ end-sound {s} {area} {air} h t =
       place = by-test (λ (x : ℕ). x < s .config .rounds) (isLast (s .config) (s .place)) 0 (s .place + 1)
           (λ e. bounds (s .config) (h .config) .rounds-from) (λ e. leb-false (s .config .rounds) (s .place + 1) e);
       each = λ i. rw (List·getD-map endMember (s .members) i nobody) (one i (getD (s .members) i nobody) (h .each i));
-      counts = none-counts;
+      counters = none-counts;
       count = sym packets-none;
       parts = λ p k. absurd (not-suc-le-zero k);
       quiet = λ e. never e;
@@ -320,7 +320,7 @@ load-sound f t area h =
       config = l .config;
       place = bounds f (l .config) .rounds-from;
       each = every-tab (Sits f true 0) nobody 32 (loadedMember f t) loaded (λ i. record { up = λ u. never (sym u) });
-      counts = none-counts;
+      counters = none-counts;
       count = sym packets-none;
       parts = λ p k. absurd (not-suc-le-zero k);
       quiet = λ e. never e;

@@ -62,8 +62,9 @@ module _ {f : Config} {talk : Bool} {p i : ℕ} {n : Node} (s : Steady f talk p 
   steady-small = let k : n .setup .config .nodes ≡ f .nodes = ap (λ (x : Setup). x .config .nodes) (s .setup) in omega
       (arith, ranges n (s .range) .setting .bounds .nodes-to)
 
-  pub steady-met : n .epoch .met < 2 ^ f .nodes
-  steady-met = subst (λ (x : ℕ). n .epoch .met < 2 ^ x) (ap (λ (x : Setup). x .config .nodes) (s .setup)) (ranges n (s .range) .epoch .met)
+  pub steady-met : n .epoch .interactions < 2 ^ f .nodes
+  steady-met = subst (λ (x : ℕ). n .epoch .interactions < 2 ^ x) (ap (λ (x : Setup). x .config .nodes) (s .setup))
+      (ranges n (s .range) .epoch .interactions)
 
 -- a waiting node doesn't look at the phase
 pub steady-waits : {f : Config} {talk other : Bool} {p i : ℕ} {n : Node} → Steady f talk p i n → isWaiting (n .phase) ≡ true

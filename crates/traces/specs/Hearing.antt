@@ -10,11 +10,11 @@ use lib.ListN.{length}
 use Rattle.node.specs.declared.Answer.{Answer}
 use Rattle.node.specs.declared.Answer.the-variants.{Done, NoSuchNode, WrongPhase, NotLive, NoSuchPacket, OwnPacket, NoRoom}
 use Rattle.wire.specs.Layout.{packetIn}
-use Rattle.site.specs.Members.{channelOf, memberAt, outside, isLive}
+use Rattle.site.specs.Members.{headerOf, memberAt, outside, isLive}
 use Rattle.site.specs.Parts.{packetPart}
 use Rattle.site.specs.Load.{loadAnswer}
 use Rattle.site.specs.Answers.{areaSize, isPacket, answerOf}
-use Rattle.site.specs.Run.{World, run}
+use Rattle.site.specs.Run.{RunState, run}
 use Rattle.node.specs.declared.Config.{Config}
 use Rattle.site.specs.declared.Table.{Table}
 use Rattle.site.specs.declared.Event.{Event}
@@ -22,18 +22,18 @@ use Rattle.site.specs.declared.Event.the-variants.{Hear}
 use Rattle.traces.specs.Reached.{begin}
 
 -- who sent the packet of number p, by the bytes in its part
-abbrev pub senderOf : World → ℕ → ℕ
-senderOf w p = packetIn (packetPart (channelOf (w .site)) (w .area) p) .sender
+abbrev pub senderOf : RunState → ℕ → ℕ
+senderOf w p = packetIn (packetPart (headerOf (w .site)) (w .area) p) .sender
 
 -- an answer to a hearing that looks at no byte of the packet but its sender: 15, 3, 4, 5, 8, 9, or 0
-abbrev pub plainHear : World → ℕ → ℕ → Answer
+abbrev pub plainHear : RunState → ℕ → ℕ → Answer
 plainHear w j p =
     let s = w .site in
     cond (ltb (length (w .area)) areaSize) NoRoom
     (cond (outside (s .config) j) NoSuchNode
     (cond (not (s .negotiates)) WrongPhase
     (cond (not (isLive (memberAt s j))) NotLive
-    (cond (not (isPacket (channelOf s) p)) NoSuchPacket
+    (cond (not (isPacket (headerOf s) p)) NoSuchPacket
     (cond (eqb (senderOf w p) j) OwnPacket Done)))))
 
 -- the law's statement, over every list of events from an accepted table: proved in proofs/Once.antt

@@ -11,7 +11,7 @@ use Rattle.node.specs.Close.{determines, newSchedule}
 use Rattle.node.specs.Model.{Node}
 use Rattle.site.specs.Members.{isLive}
 use Rattle.site.specs.Answers.{answerOf}
-use Rattle.site.specs.Run.{World, after}
+use Rattle.site.specs.Run.{RunState, after}
 use Rattle.site.specs.Model.{Member}
 use Rattle.site.specs.Model.{Site}
 use Rattle.site.specs.declared.Event.{Event}
@@ -80,11 +80,11 @@ recorded past s (Crash j) t = past
 recorded past s (Restart j flags) t = past
 
 -- a refused event adds nothing
-unfoldable pub pastAfter : Past → World → Event → Past
+unfoldable pub pastAfter : Past → RunState → Event → Past
 pastAfter past w e = cond (isDone (answerOf (w .site) (w .area) e)) (recorded past (w .site) e (after w e .site)) past
 
 -- the past of a list of events
-unfoldable pub trace : Past → World → List Event → Past
+unfoldable pub trace : Past → RunState → List Event → Past
 trace past w [] = past
 trace past w (e ∷ es) = trace (pastAfter past w e) (after w e) es
 

@@ -10,7 +10,7 @@ use Rattle.node.specs.declared.Answer.the-variants.{Done}
 use Rattle.site.specs.Members.{memberAt, isLive}
 use Rattle.site.specs.Load.{loadedSite}
 use Rattle.site.specs.Answers.{answerOf}
-use Rattle.site.specs.Run.{World, after, run}
+use Rattle.site.specs.Run.{RunState, after, run}
 use Rattle.node.specs.declared.Config.{Config}
 use Rattle.site.specs.declared.Table.{Table}
 use Rattle.site.specs.declared.Event.{Event}
@@ -18,28 +18,28 @@ use Rattle.site.specs.declared.Event.the-variants.{End}
 use Rattle.traces.specs.Past.{Past, trace, noPast}
 
 -- a list of events starts from a site just loaded
-abbrev pub begin : Config → Table → List ℕ → World
+abbrev pub begin : Config → Table → List ℕ → RunState
 begin f t area = record { site = loadedSite f t; area = area }
 
 -- site and area after a list of events, and its past
-abbrev pub reached : Config → Table → List ℕ → List Event → World
+abbrev pub reached : Config → Table → List ℕ → List Event → RunState
 reached f t area es = run (begin f t area) es
 
 abbrev pub pastOf : Config → Table → List ℕ → List Event → Past
 pastOf f t area es = trace (noPast (loadedSite f t)) (begin f t area) es
 
 -- an event is accepted there
-abbrev pub Accepted : World → Event → Type 0
+abbrev pub Accepted : RunState → Event → Type 0
 Accepted w e = answerOf (w .site) (w .area) e ≡ Done
 
 -- the node of number j is live after an event
-abbrev pub liveAfter : World → Event → ℕ → Type 0
+abbrev pub liveAfter : RunState → Event → ℕ → Type 0
 liveAfter w e j = isLive (memberAt (after w e .site) j) ≡ true
 
-abbrev pub nodeAfter : World → Event → ℕ → Node
+abbrev pub nodeAfter : RunState → Event → ℕ → Node
 nodeAfter w e j = memberAt (after w e .site) j .node
 
 -- an `end` that is accepted in the epoch's last round
-pub record EndsEpoch (w : World) : Type 0 where
+pub record EndsEpoch (w : RunState) : Type 0 where
   pub accepted : Accepted w End
   pub last : isLast (w .site .config) (w .site .place) ≡ true

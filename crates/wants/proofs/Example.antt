@@ -10,7 +10,7 @@ use Rattle.words.specs.Bits.{wordOf}
 use Rattle.lists.specs.All.{iter, tab, same, allBelow}
 use Rattle.allotment.specs.Allotment.{ownersOf, scheduleOf, asks, dealOne, dealRound, dealt, keepOne, kept, better, chosen, fillOne, filled}
 use Rattle.allotment.specs.Allotment.{next, total}
-use Rattle.membership.specs.requests.Requests.{requesters, union, agree, requestsWithin, firstOf, lowestMissing}
+use Rattle.membership.specs.requests.Requests.{requesters, union, agree, requestsWithin, firstWith, lowestMissing}
 use Rattle.membership.specs.counters.Counters.{counted}
 use Rattle.node.specs.Figures.{configOk, flagsOk}
 use Rattle.node.specs.Negotiation.{opened, packetOf, merges, noted, joined, interacted, heardNode, sendAnswer, hearAnswer}
@@ -26,21 +26,21 @@ use Rattle.site.specs.Load.{noRow, rowOk, tableOk, loadAnswer, loadedMember, lo
 use Rattle.site.specs.Answers.{siteSend, answerPart, siteHear, siteClose, siteWant, answerOf}
 use Rattle.site.specs.Steps.{sentSite, sentArea, heardSite, closedSite, wantedSite, siteAfter, areaAfter}
 use Rattle.site.specs.Run.{run}
-use Rattle.machine.specs.reports.Reports.{toldBy, reportOf}
+use Rattle.machine.specs.reports.Reports.{memberReport, reportOf}
 use Rattle.traces.specs.Reached.{begin}
 use Rattle.windows.specs.Windows.{listOk, hasWindows, demandAt, dueAt}
 use Rattle.machine.specs.hours.Hours.{givenTable, timedLoadAnswer, loadedTimed, timedAnswer, nextTimed, timedAfter}
 use Rattle.machine.specs.hours.Calls.{runCalls}
 use Rattle.agreement.specs.daily.Daily.{beginBy}
-use Rattle.wants.specs.Wants.{withoutWants, SameButWants, reports, reportsBy, goodLists}
-use Rattle.wants.specs.Example.{area, pair, wanting, talk, wantingTalk, given, calls, rulesIn, owners, Example}
+use Rattle.wants.specs.Wants.{withoutWants, SameButWants, closeReports, reportsBy, goodLists}
+use Rattle.wants.specs.Example.{area, pair, wanting, talk, wantingTalk, exampleWindows, lentCalls, rulesIn, owners, Example}
 
 loads : (loadAnswer pair (wanting 1 1) ≡ Done) × (loadAnswer pair (wanting 2 0) ≡ Done)
-    × (timedLoadAnswer pair (wanting 1 1) 2 given ≡ Done)
+    × (timedLoadAnswer pair (wanting 1 1) 2 exampleWindows ≡ Done)
 unfolding timedLoadAnswer loadAnswer tableOk rowOk startAnswer configOk flagsOk allBelow listOk
 loads = (refl, refl, refl)
 
-lists : (withoutWants talk ≡ withoutWants wantingTalk) × (goodLists 2 2 calls ≡ true)
+lists : (withoutWants talk ≡ withoutWants wantingTalk) × (goodLists 2 2 lentCalls ≡ true)
 unfolding withoutWants goodLists listOk allBelow
 lists = (refl, refl)
 
@@ -57,10 +57,11 @@ rows = record { version = version; flags = flags }
     flags (suc zero) l = refl
     flags (suc (suc i)) l = refl
 
-told : (rulesIn (reports (begin pair (wanting 1 1) area) talk) ≡ ((7 ∷ 0 ∷ []) ∷ (1 ∷ 1 ∷ []) ∷ []) ∷ [])
-    × (rulesIn (reports (begin pair (wanting 2 0) area) wantingTalk) ≡ ((7 ∷ 0 ∷ []) ∷ (1 ∷ 1 ∷ []) ∷ []) ∷ [])
-    × (rulesIn (reportsBy (beginBy pair (wanting 1 1) 2 given area) calls) ≡ ((7 ∷ 0 ∷ []) ∷ (1 ∷ 1 ∷ []) ∷ []) ∷ [])
-unfolding reports reportsBy toldBy reportOf firstRule ruleOf firstOf lowestMissing run runCalls siteAfter areaAfter answerOf siteSend
+told : (rulesIn (closeReports (begin pair (wanting 1 1) area) talk) ≡ ((7 ∷ 0 ∷ []) ∷ (1 ∷ 1 ∷ []) ∷ []) ∷ [])
+    × (rulesIn (closeReports (begin pair (wanting 2 0) area) wantingTalk) ≡ ((7 ∷ 0 ∷ []) ∷ (1 ∷ 1 ∷ []) ∷ []) ∷ [])
+    × (rulesIn (reportsBy (beginBy pair (wanting 1 1) 2 exampleWindows area) lentCalls) ≡ ((7 ∷ 0 ∷ []) ∷ (1 ∷ 1 ∷ []) ∷ []) ∷ [])
+unfolding closeReports reportsBy memberReport reportOf firstRule ruleOf firstWith lowestMissing run runCalls siteAfter
+    areaAfter answerOf siteSend
     answerPart siteHear siteClose siteWant sentSite sentArea heardSite closedSite
     wantedSite loadedSite loadedMember givenTable timedLoadAnswer loadAnswer tableOk rowOk startAnswer configOk flagsOk listOk
     loadedTimed timedAnswer nextTimed timedAfter hasWindows demandAt dueAt
@@ -72,7 +73,7 @@ told = (refl, refl, refl)
 
 held : (owners (memberAt (run (begin pair (wanting 1 1) area) talk .site) 1 .node) ≡ 1 ∷ 2 ∷ [])
     × (owners (memberAt (run (begin pair (wanting 2 0) area) wantingTalk .site) 1 .node) ≡ 1 ∷ 1 ∷ [])
-    × (owners (memberAt (runCalls (beginBy pair (wanting 1 1) 2 given area) calls .timed .site) 1 .node) ≡ 1 ∷ 1 ∷ [])
+    × (owners (memberAt (runCalls (beginBy pair (wanting 1 1) 2 exampleWindows area) lentCalls .timed .site) 1 .node) ≡ 1 ∷ 1 ∷ [])
     × (memberAt (run (begin pair (wanting 1 1) area) talk .site) 1 .node .request ≡ 1)
     × (memberAt (run (begin pair (wanting 2 0) area) wantingTalk .site) 1 .node .request ≡ 3)
 unfolding run runCalls siteAfter areaAfter answerOf siteSend answerPart siteHear siteClose siteWant sentSite sentArea heardSite closedSite

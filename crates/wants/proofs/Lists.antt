@@ -14,7 +14,7 @@ use Rattle.site.specs.Answers.{answerOf}
 use Rattle.site.specs.Events.{isClose}
 use Rattle.site.specs.Load.{loadAnswer, loadedSite}
 use Rattle.site.specs.Steps.{nextSite, nextArea, siteAfter, areaAfter}
-use Rattle.site.specs.Run.{World, after, run}
+use Rattle.site.specs.Run.{RunState, after, run}
 use Rattle.node.specs.declared.Config.{Config}
 use Rattle.site.specs.declared.Table.{Table}
 use Rattle.site.specs.Model.{Site}
@@ -26,7 +26,7 @@ use Rattle.traces.specs.Hearing.{plainHear}
 use Rattle.traces.proofs.Sound.{Sound, load-sound}
 use Rattle.traces.proofs.Once.{heard}
 use Rattle.agreement.proofs.daily.Wants.{run-append}
-use Rattle.wants.specs.Wants.{isWant, among, withoutWants, reports, answers}
+use Rattle.wants.specs.Wants.{isWant, prependedIf, withoutWants, closeReports, answers}
 use Rattle.wants.proofs.Scenes.{Scene, sceneOf, nextBy, answerBy, afterBy, sceneAfter, reportsIn, answersIn}
 use Rattle.wants.proofs.Sites.{answer-is, report-is, next}
 
@@ -43,20 +43,20 @@ by-want P p q (Restart j flags) = q (Restart j flags) refl
 
 pub kept-front : (e : Event) (es : List Event) → isWant e ≡ false → withoutWants (e ∷ es) ≡ e ∷ withoutWants es
 unfolding withoutWants
-kept-front e es n = ap (λ (b : Bool). among (not b) e (withoutWants es)) n
+kept-front e es n = ap (λ (b : Bool). prependedIf (not b) e (withoutWants es)) n
 
 -- a site and its area that a list of events leads to, with the packets of the phase
-pub record At (f : Config) (t : Table) (area : List ℕ) (w : World) : Type 0 where
+pub record At (f : Config) (t : Table) (area : List ℕ) (w : RunState) : Type 0 where
   pub before : List Event
   pub is : run (begin f t area) before ≡ w
   pub air : List Packet
   pub sound : Sound (w .site) (w .area) air
 
-abbrev pub sceneAt : {f : Config} {t : Table} {area : List ℕ} {w : World} → At f t area w → Scene
+abbrev pub sceneAt : {f : Config} {t : Table} {area : List ℕ} {w : RunState} → At f t area w → Scene
 sceneAt {w = w} a = sceneOf (w .site) (w .area) (a .air)
 
 -- one that is led to, at a scene
-pub record Moved (f : Config) (t : Table) (area : List ℕ) (w : World) (c : Scene) : Type 0 where
+pub record Moved (f : Config) (t : Table) (area : List ℕ) (w : RunState) (c : Scene) : Type 0 where
   pub there : At f t area w
   pub scene : sceneAt there ≡ c
 
@@ -66,16 +66,17 @@ module _ (f : Config) (t : Table) (d : loadAnswer f t ≡ Done) (area : List ℕ
   start = record { there = record { before = []; is = refl; air = []; sound = load-sound f t area d }; scene = refl }
 
   -- a hearing is answered by its packet's sender alone
-  plainly : (w : World) → At f t area w → (j p : ℕ) → answerOf (w .site) (w .area) (Hear j p) ≡ plainHear w j p
+  plainly : (w : RunState) → At f t area w → (j p : ℕ) → answerOf (w .site) (w .area) (Hear j p) ≡ plainHear w j p
   plainly w a j p =
-      ap (λ (v : World). answerOf (v .site) (v .area) (Hear j p)) (sym (a .is)) ∙ heard .hears f t d area (a .before) j p
-      ∙ ap (λ (v : World). plainHear v j p) (a .is)
+      ap (λ (v : RunState). answerOf (v .site) (v .area) (Hear j p)) (sym (a .is)) ∙ heard .hears f t d area (a .before) j p
+      ∙ ap (λ (v : RunState). plainHear v j p) (a .is)
 
-  pub answer-at : (w : World) (a : At f t area w) (e : Event) → isWant e ≡ false → answerOf (w .site) (w .area) e ≡ answerBy (sceneAt a) e
+  pub answer-at : (w : RunState) (a : At f t area w) (e : Event) → isWant e ≡ false → answerOf (w .site) (w .area) e
+      ≡ answerBy (sceneAt a) e
   answer-at w a e n = answer-is (w .site) (w .area) (a .air) (a .sound) e n (plainly w a)
 
   -- accepted or not
-  stepped : (w : World) (a : At f t area w) (e : Event)
+  stepped : (w : RunState) (a : At f t area w) (e : Event)
       → Moved f t area (after w e) (cond (isDone (answerOf (w .site) (w .area) e)) (nextBy (sceneAt a) e) (sceneAt a))
   unfolding run siteAfter areaAfter
   stepped w a e =
@@ -83,7 +84,7 @@ module _ (f : Config) (t : Table) (d : loadAnswer f t ≡ Done) (area : List ℕ
       record {
         there = record {
           before = a .before ++ (e ∷ []);
-          is = run-append (begin f t area) (a .before) (e ∷ []) ∙ ap (λ (v : World). after v e) (a .is);
+          is = run-append (begin f t area) (a .before) (e ∷ []) ∙ ap (λ (v : RunState). after v e) (a .is);
           air = x .0;
           sound = x .1;
         };
@@ -103,7 +104,7 @@ module _ (f : Config) (t : Table) (d : loadAnswer f t ≡ Done) (area : List ℕ
       go false q = (a .air, a .sound, refl)
 
   -- an event that is no want
-  pub moves : (w : World) (a : At f t area w) (e : Event) → isWant e ≡ false → Moved f t area (after w e) (afterBy (sceneAt a) e)
+  pub moves : (w : RunState) (a : At f t area w) (e : Event) → isWant e ≡ false → Moved f t area (after w e) (afterBy (sceneAt a) e)
   moves w a e n =
       let x = stepped w a e in
       record {
@@ -112,7 +113,7 @@ module _ (f : Config) (t : Table) (d : loadAnswer f t ≡ Done) (area : List ℕ
       }
 
   -- a want
-  pub stays : (w : World) (a : At f t area w) (j x : ℕ) → Moved f t area (after w (Want j x)) (sceneAt a)
+  pub stays : (w : RunState) (a : At f t area w) (j x : ℕ) → Moved f t area (after w (Want j x)) (sceneAt a)
   stays w a j x =
       let y = stepped w a (Want j x) in
       record {
@@ -124,16 +125,16 @@ module _ (f : Config) (t : Table) (d : loadAnswer f t ≡ Done) (area : List ℕ
       }
 
   -- reports and answers of a list are those of its scene without the wants, and so is where it leads
-  pub record Follows (w : World) (es : List Event) (c : Scene) (gs : List Event) : Type 0 where
-    pub told : reports w es ≡ reportsIn c gs
+  pub record Follows (w : RunState) (es : List Event) (c : Scene) (gs : List Event) : Type 0 where
+    pub told : closeReports w es ≡ reportsIn c gs
     pub answered : answers w es ≡ answersIn c gs
     pub moved : Moved f t area (run w es) (sceneAfter c gs)
 
   -- one event more at the front
-  module _ (w : World) (a : At f t area w) (es : List Event)
+  module _ (w : RunState) (a : At f t area w) (es : List Event)
       (rest : (x : Event) (b : At f t area (after w x)) → Follows (after w x) es (sceneAt b) (withoutWants es)) where
     wanted : (j x : ℕ) → Follows w (Want j x ∷ es) (sceneAt a) (withoutWants (Want j x ∷ es))
-    unfolding run withoutWants reports answers
+    unfolding run withoutWants closeReports answers
     wanted j x =
         let m = stays w a j x in
         let r = rest (Want j x) (m .there) in
@@ -145,7 +146,7 @@ module _ (f : Config) (t : Table) (d : loadAnswer f t ≡ Done) (area : List ℕ
         }
 
     other : (x : Event) → isWant x ≡ false → Follows w (x ∷ es) (sceneAt a) (withoutWants (x ∷ es))
-    unfolding run reports answers reportsIn answersIn sceneAfter
+    unfolding run closeReports answers reportsIn answersIn sceneAfter
     other x n =
         let m = moves w a x n in
         let r = rest x (m .there) in
@@ -153,11 +154,11 @@ module _ (f : Config) (t : Table) (d : loadAnswer f t ≡ Done) (area : List ℕ
         let k : x ∷ withoutWants es ≡ withoutWants (x ∷ es) = sym (kept-front x es n) in
         record {
           told =
-              ap₂ (λ (y : Report) (l : List Report). among (isClose x) y l) (report-is (w .site) (w .area) (a .air) x q)
+              ap₂ (λ (y : Report) (l : List Report). prependedIf (isClose x) y l) (report-is (w .site) (w .area) (a .air) x q)
               (r .told ∙ ap (λ (c : Scene). reportsIn c (withoutWants es)) (m .scene))
               ∙ ap (reportsIn (sceneAt a)) k;
           answered =
-              ap₂ (λ (y : Answer) (l : List Answer). among (not (isWant x)) y l) q
+              ap₂ (λ (y : Answer) (l : List Answer). prependedIf (not (isWant x)) y l) q
               (r .answered ∙ ap (λ (c : Scene). answersIn c (withoutWants es)) (m .scene))
               ∙ ap (answersIn (sceneAt a)) k;
           moved = record {
@@ -166,8 +167,8 @@ module _ (f : Config) (t : Table) (d : loadAnswer f t ≡ Done) (area : List ℕ
           };
         }
 
-  pub follow : (w : World) (a : At f t area w) (es : List Event) → Follows w es (sceneAt a) (withoutWants es)
-  unfolding run withoutWants reports answers reportsIn answersIn sceneAfter
+  pub follow : (w : RunState) (a : At f t area w) (es : List Event) → Follows w es (sceneAt a) (withoutWants es)
+  unfolding run withoutWants closeReports answers reportsIn answersIn sceneAfter
   follow w a [] = record { told = refl; answered = refl; moved = record { there = a; scene = refl } }
   follow w a (e ∷ es) =
       by-want (λ (x : Event). Follows w (x ∷ es) (sceneAt a) (withoutWants (x ∷ es))) (wanted w a es (λ x b. follow (after w x) b es))

@@ -10,7 +10,7 @@ use Rattle.words.specs.Bits.{wordOf}
 use Rattle.lists.specs.All.{iter, tab, same, allBelow}
 use Rattle.allotment.specs.Allotment.{scheduleOf, asks, dealOne, dealRound, dealt, keepOne, kept, better, chosen, fillOne, filled, next}
 use Rattle.allotment.specs.Allotment.{total}
-use Rattle.membership.specs.requests.Requests.{requesters, union, agree, requestsWithin, firstOf, lowestMissing}
+use Rattle.membership.specs.requests.Requests.{requesters, union, agree, requestsWithin, firstWith, lowestMissing}
 use Rattle.membership.specs.counters.Counters.{counted}
 use Rattle.node.specs.Figures.{configOk, flagsOk}
 use Rattle.node.specs.Negotiation.{opened, packetOf, merges, noted, joined, interacted, heardNode, sendAnswer, hearAnswer}
@@ -23,7 +23,7 @@ use Rattle.wire.specs.Reads.{packetOk, packetAnswer}
 use Rattle.site.specs.Load.{rowOk, tableOk, loadAnswer, loadedMember, loadedSite}
 use Rattle.site.specs.Answers.{siteSend, answerPart, siteHear, siteClose, answerOf}
 use Rattle.site.specs.Steps.{sentSite, sentArea, heardSite, closedSite, siteAfter, areaAfter}
-use Rattle.machine.specs.reports.Reports.{toldBy, reportOf}
+use Rattle.machine.specs.reports.Reports.{memberReport, reportOf}
 use Rattle.text.specs.Ascii.{ascii}
 use Rattle.text.specs.Read.{front, split, digitsFrom, numberOf}
 use Rattle.text.specs.Write.{digitsOf}
@@ -33,10 +33,10 @@ use Rattle.script.specs.load.Opening.{got, opening, namesLine, settingsLine, ta
 use Rattle.script.specs.events.Events.{numberFrom, fieldsOf}
 use Rattle.windows.specs.Windows.{listOk, hasWindows, demandAt, dueAt}
 use Rattle.machine.specs.hours.Hours.{givenTable, timedLoadAnswer, loadedTimed, timedAnswer, nextTimed, timedAfter}
-use Rattle.desk.specs.listings.Output.{loadedWorld, dayFits, unfit, splitTold}
-use Rattle.desk.specs.listings.Why.{told, refusalPart, headPart, whyBody, whyOf}
+use Rattle.desk.specs.listings.Output.{loadedState, dayFits, unfit, splitTold}
+use Rattle.desk.specs.listings.Why.{reasonLines, refusalPart, headPart, whyBody, whyOf}
 use Rattle.desk.specs.reasons.Reasons.{reason, reasonOf}
-use Rattle.wants.specs.Example.{area, given}
+use Rattle.wants.specs.Example.{area, exampleWindows}
 use Rattle.wants.specs.Real.{pairScript, pairOpening, pairLines, RealScript}
 use Rattle.wants.proofs.Script.{same-reasons}
 
@@ -48,14 +48,15 @@ unfolding opening namesLine onLine split front same settingsLine tableLines conf
     rowOk startAnswer flagsOk
 opened-so = refl
 
-day-so : dayFits 2 given pairOpening ≡ true
+day-so : dayFits 2 exampleWindows pairOpening ≡ true
 unfolding listOk allBelow
 day-so = refl
 
-told-so : (told 1 given (loadedWorld 2 given pairOpening area) 7 pairLines ≡ ascii "9 1 sent 0\n")
-    × (told 2 given (loadedWorld 2 given pairOpening area) 7 pairLines ≡ ascii "9 2 missing 1\n")
-unfolding told reason reasonOf digitsOf fieldsOf numberFrom split front numberOf digitsFrom twoOf toldBy reportOf firstRule ruleOf
-    firstOf lowestMissing siteAfter areaAfter answerOf siteSend answerPart siteHear siteClose sentSite sentArea heardSite closedSite
+told-so : (reasonLines 1 exampleWindows (loadedState 2 exampleWindows pairOpening area) 7 pairLines ≡ ascii "9 1 sent 0\n")
+    × (reasonLines 2 exampleWindows (loadedState 2 exampleWindows pairOpening area) 7 pairLines ≡ ascii "9 2 missing 1\n")
+unfolding reasonLines reason reasonOf digitsOf fieldsOf numberFrom split front numberOf digitsFrom twoOf memberReport
+    reportOf firstRule ruleOf
+    firstWith lowestMissing siteAfter areaAfter answerOf siteSend answerPart siteHear siteClose sentSite sentArea heardSite closedSite
     loadedSite loadedMember givenTable timedLoadAnswer loadAnswer tableOk rowOk startAnswer configOk flagsOk listOk
     loadedTimed timedAnswer nextTimed timedAfter hasWindows demandAt dueAt
     begun waiting opened packetOf merges noted joined interacted heardNode sendAnswer hearAnswer complete level verdict counted
@@ -68,11 +69,12 @@ none-so : dayFits 1 [] pairOpening ≡ true
 unfolding listOk allBelow
 none-so = refl
 
-printed : (j : ℕ) → whyOf j 2 given pairScript area ≡ headPart j ++ told j given (loadedWorld 2 given pairOpening area) 7 pairLines
+printed : (j : ℕ) → whyOf j 2 exampleWindows pairScript area ≡ headPart j
+    ++ reasonLines j exampleWindows (loadedState 2 exampleWindows pairOpening area) 7 pairLines
 unfolding whyOf
 printed j =
     skip (unfit pairScript area) (refusalPart j 0 0 NoRoom) _ _ fitting
-    (ap (whyBody j 2 given (splitTold pairScript area) area) opened-so ∙ hit (dayFits 2 given pairOpening) _ _ day-so)
+    (ap (whyBody j 2 exampleWindows (splitTold pairScript area) area) opened-so ∙ hit (dayFits 2 exampleWindows pairOpening) _ _ day-so)
 
 pub real-script : RealScript
 real-script =
@@ -85,6 +87,6 @@ real-script =
       no-windows = none-so;
       first = first;
       second = second;
-      plain-first = same-reasons .reasons 1 2 [] given pairScript area pairOpening pairLines opened-so none-so day-so 1 ∙ first;
-      plain-second = same-reasons .reasons 1 2 [] given pairScript area pairOpening pairLines opened-so none-so day-so 2 ∙ second;
+      plain-first = same-reasons .reasons 1 2 [] exampleWindows pairScript area pairOpening pairLines opened-so none-so day-so 1 ∙ first;
+      plain-second = same-reasons .reasons 1 2 [] exampleWindows pairScript area pairOpening pairLines opened-so none-so day-so 2 ∙ second;
     }

@@ -24,13 +24,13 @@ use Rattle.node.specs.declared.Config.{Config}
 use Rattle.site.specs.Model.{Site}
 use Rattle.site.specs.declared.Event.{Event}
 use Rattle.site.specs.declared.Event.the-variants.{Send, Hear, Close, Take, End, Want, Crash, Restart}
-use Rattle.machine.specs.reports.Reports.{untold, closesWith}
-use Rattle.machine.specs.declared.Told.{Told}
+use Rattle.machine.specs.reports.Reports.{noNodeReport, closesWith}
+use Rattle.machine.specs.declared.NodeReport.{NodeReport}
 use Rattle.machine.specs.declared.Report.{Report}
 use Rattle.traces.proofs.Sound.{noPacket}
 use Rattle.node.specs.Outline.{outlineOf}
 use Rattle.wants.specs.Outline.{MemberOutline, memberOutline, SiteOutline, siteOutline}
-use Rattle.wants.specs.Wants.{isWant, among}
+use Rattle.wants.specs.Wants.{isWant, prependedIf}
 use Rattle.node.proofs.Outline.{PacketOutline, packetOutline, sentOutline, heardOutline, closeBy, takenOutline, endBy, groundBy}
 
 -- the outline of a site, those of the packets of the phase, and whether the area is too short
@@ -158,8 +158,8 @@ afterBy c e = cond (isDone (answerBy c e)) (nextBy c e) c
 
 -- Reports
 
-unfoldable pub toldFor : Bool → MemberOutline → Told
-toldFor accepted m = cond (accepted && liveBy m) (record { live = true; ground = groundBy (m .node) }) untold
+unfoldable pub toldFor : Bool → MemberOutline → NodeReport
+toldFor accepted m = cond (accepted && liveBy m) (record { live = true; ground = groundBy (m .node) }) noNodeReport
 
 unfoldable pub reportFor : Bool → List MemberOutline → Report
 reportFor accepted ms = record { told = tab 32 (λ i. toldFor accepted (getD ms i (memberOutline nobody))) }
@@ -175,8 +175,8 @@ sceneAfter c (e ∷ es) = sceneAfter (afterBy c e) es
 
 unfoldable pub reportsIn : Scene → List Event → List Report
 reportsIn c [] = []
-reportsIn c (e ∷ es) = among (isClose e) (reportIn c e) (reportsIn (afterBy c e) es)
+reportsIn c (e ∷ es) = prependedIf (isClose e) (reportIn c e) (reportsIn (afterBy c e) es)
 
 unfoldable pub answersIn : Scene → List Event → List Answer
 answersIn c [] = []
-answersIn c (e ∷ es) = among (not (isWant e)) (answerBy c e) (answersIn (afterBy c e) es)
+answersIn c (e ∷ es) = prependedIf (not (isWant e)) (answerBy c e) (answersIn (afterBy c e) es)

@@ -9,7 +9,7 @@ use Rattle.text.specs.Read.{split}
 use Rattle.node.specs.declared.Answer.the-variants.{Done, NoRoom}
 use Rattle.site.specs.Events.{isEnd}
 use Rattle.site.specs.Load.{loadAnswer}
-use Rattle.site.specs.Run.{World, after, run}
+use Rattle.site.specs.Run.{RunState, after, run}
 use Rattle.node.specs.declared.Config.{Config}
 use Rattle.site.specs.declared.Table.{Table}
 use Rattle.site.specs.declared.Event.{Event}
@@ -17,7 +17,7 @@ use Rattle.machine.specs.declared.Report.{Report}
 use Rattle.windows.specs.Windows.{listOk}
 use Rattle.windows.specs.declared.Window.{Window}
 use Rattle.machine.specs.hours.Hours.{givenTable}
-use Rattle.machine.specs.hours.Calls.{TimedWorld}
+use Rattle.machine.specs.hours.Calls.{TimedState}
 use Rattle.traces.specs.Reached.{begin}
 use Rattle.agreement.proofs.daily.Theorem.{plainOf}
 use Rattle.agreement.proofs.daily.Loads.{given-loads}
@@ -28,7 +28,7 @@ use Rattle.script.specs.load.Opening.{Reading, got, Opening, opening}
 use Rattle.script.proofs.load.Outcome.{opening-loads}
 use Rattle.desk.specs.reasons.Reasons.{reasonOf, lineReport}
 use Rattle.desk.specs.listings.Output as desk
-use Rattle.desk.specs.listings.Why.{told, refusalPart, headPart, whyBody, whyOf}
+use Rattle.desk.specs.listings.Why.{reasonLines, refusalPart, headPart, whyBody, whyOf}
 use Rattle.wants.specs.Wants.{withoutWants, reportAt}
 use Rattle.wants.specs.Script.{SameReasons}
 use Rattle.wants.proofs.Scenes.{Scene, sceneAfter, reportIn}
@@ -37,19 +37,19 @@ use Rattle.wants.proofs.Lists.{by-want, At, sceneAt, answer-at, follow}
 use Rattle.wants.proofs.Windows.{good-here, call, Beside, loads}
 
 -- the report of any event, a want's too, is that of the scene
-report-at : (f : Config) (t : Table) (d : loadAnswer f t ≡ Done) (area : List ℕ) (w : World) (a : At f t area w) (e : Event)
+report-at : (f : Config) (t : Table) (d : loadAnswer f t ≡ Done) (area : List ℕ) (w : RunState) (a : At f t area w) (e : Event)
     → reportAt (w .site) (w .area) e ≡ reportIn (sceneAt a) e
 report-at f t d area w a e =
     by-want (λ (x : Event). reportAt (w .site) (w .area) x ≡ reportIn (sceneAt a) x) (λ j x. report-of false (w .site .members))
     (λ x n. report-is (w .site) (w .area) (a .air) x (answer-at f t d area w a x n)) e
 
 -- a plain run after a line
-abbrev plainAfter : World → Parsed → World
+abbrev plainAfter : RunState → Parsed → RunState
 plainAfter v Malformed = v
 plainAfter v (good x) = after v x
 
 module _ (f : Config) (t u : Table) (d : loadAnswer f t ≡ Done) (e : loadAnswer f u ≡ Done) (area : List ℕ) (D : ℕ) (ws : List Window)
-    (ok : listOk (f .nodes) D ws ≡ true) (v : World) (w : TimedWorld) (b : Beside f t u e area D v w) where
+    (ok : listOk (f .nodes) D ws ≡ true) (v : RunState) (w : TimedState) (b : Beside f t u e area D v w) where
   same-line : (p : Parsed) → lineReport (v .site) (v .area) p ≡ lineReport (w .timed .site) (w .area) p
   same-line Malformed = refl
   same-line (good x) =
@@ -72,10 +72,10 @@ module _ (f : Config) (t u : Table) (d : loadAnswer f t ≡ Done) (e : loadAnswe
 -- two runs with windows beside one plain run
 module _ (f : Config) (t : Table) (d : loadAnswer f t ≡ Done) (area : List ℕ) (D E : ℕ) (ws vs : List Window)
     (ok : listOk (f .nodes) D ws ≡ true) (fine : listOk (f .nodes) E vs ≡ true) where
-  same-told : (j : ℕ) (v : World) (w x : TimedWorld) → Beside f t (givenTable ws t) (given-loads f t D ws ok d) area D v w
+  same-told : (j : ℕ) (v : RunState) (w x : TimedState) → Beside f t (givenTable ws t) (given-loads f t D ws ok d) area D v w
       → Beside f t (givenTable vs t) (given-loads f t E vs fine d) area E v x
-      → (n : ℕ) (ls : List (List ℕ)) → told j ws w n ls ≡ told j vs x n ls
-  unfolding told
+      → (n : ℕ) (ls : List (List ℕ)) → reasonLines j ws w n ls ≡ reasonLines j vs x n ls
+  unfolding reasonLines
   same-told j v w x b c n [] = refl
   same-told j v w x b c n (l ∷ []) = refl
   same-told j v w x b c n (l ∷ m ∷ ls) =
@@ -101,7 +101,7 @@ reasons D E ws vs script area o ls opens ok fine j =
     let q : whyBody j D ws k area (got o ls) ≡ whyBody j E vs k area (got o ls) =
     hit _ _ _ ok
     ∙ ap (λ (l : List ℕ). headPart j ++ l)
-    (same-told f t d area D E ws vs ok fine j (begin f t area) (desk.loadedWorld D ws o area) (desk.loadedWorld E vs o area)
+    (same-told f t d area D E ws vs ok fine j (begin f t area) (desk.loadedState D ws o area) (desk.loadedState E vs o area)
     (loads f t D ws d ok area) (loads f t E vs d fine area) (5 + f .nodes) ls)
     ∙ sym (hit _ _ _ fine) in
     ap (cond (desk.unfit script area) (refusalPart j 0 0 NoRoom))

@@ -25,7 +25,7 @@ use Rattle.range.proofs.Laws as ranged
 use Rattle.wire.specs.Reads.{hasPart}
 use Rattle.wire.proofs.Laws as wire
 use Rattle.site.specs.Counts.{topSent, packets, sentOf}
-use Rattle.site.specs.Members.{nobody, channelOf, memberAt, outside, isLive, withNode, put}
+use Rattle.site.specs.Members.{nobody, headerOf, memberAt, outside, isLive, withNode, put}
 use Rattle.site.specs.Answers.{areaSize, isPacket, siteSend, siteClose, siteTake, siteEnd, siteCrash, siteRestart, answerOf}
 use Rattle.site.specs.Steps.{sentSite, sentArea, heardSite, closeMember, closedSite, takenSite, endMember, endedSite, wantedSite}
 use Rattle.site.specs.Steps.{crashedSite, restartedSite, nextSite, nextArea}
@@ -38,7 +38,7 @@ use Rattle.site.proofs.Steps.{hear-as}
 use Rattle.site.proofs.Accepted.{answered, send-accepted, hear-accepted, close-accepted, take-accepted, end-accepted, want-accepted}
 use Rattle.site.proofs.Accepted.{restart-accepted, Acts}
 use Rattle.node.proofs.Bounds.{bounds}
-use Rattle.machine.specs.reports.Reports.{untold, toldBy, reportOf, closesWith}
+use Rattle.machine.specs.reports.Reports.{noNodeReport, memberReport, reportOf, closesWith}
 use Rattle.traces.specs.Hearing.{plainHear, senderOf}
 use Rattle.traces.proofs.Members.{live-up}
 use Rattle.traces.proofs.Sound.{Sound, noPacket, part-packet, hear-is, send-room, send-sound, hear-sound, close-sound, take-sound}
@@ -82,7 +82,7 @@ module _ (s : Site) (area : List ℕ) (air : List Packet) (h : Sound s area air)
   abbrev inArea : Answer → Answer
   inArea a = cond (ltb (length area) areaSize) NoRoom a
 
-  sender-is : (p : ℕ) → isPacket (channelOf s) p ≡ true
+  sender-is : (p : ℕ) → isPacket (headerOf s) p ≡ true
       → senderOf (record { site = s; area = area }) p ≡ packetAt (sceneOf s area air) p .sender
   sender-is p k =
       let from = leb-true 1 p (and-left (leb 1 p) (leb p (packets (s .sent))) k) in
@@ -97,7 +97,7 @@ module _ (s : Site) (area : List ℕ) (air : List Packet) (h : Sound s area air)
       (λ _. past-test (outside (s .config) j) NoSuchNode _ _
       (λ _. past-test (not (s .negotiates)) WrongPhase _ _
       (λ _. past-test (not (isLive (memberAt s j))) NotLive _ _
-      (λ _. past-test (not (isPacket (channelOf s) p)) NoSuchPacket _ _
+      (λ _. past-test (not (isPacket (headerOf s) p)) NoSuchPacket _ _
       (λ k. ap (λ (x : ℕ). cond (eqb x j) OwnPacket Done) (sender-is p (not-false _ k)))))))
       ∙ ap (λ (m : MemberOutline). inArea (hearBy (siteOutline s) j p m (packetAt (sceneOf s area air) p .sender))) (member-by s j)
 
@@ -126,9 +126,9 @@ module _ (s : Site) (area : List ℕ) (air : List Packet) (h : Sound s area air)
 
 -- Reports
 
-told-is : (t : Bool) (m : Member) → toldBy t m ≡ toldFor t (memberOutline m)
-unfolding toldBy toldFor
-told-is t m = ap (λ (g : Ground). cond (t && isLive m) (record { live = true; ground = g }) untold) (grounds (m .node))
+told-is : (t : Bool) (m : Member) → memberReport t m ≡ toldFor t (memberOutline m)
+unfolding memberReport toldFor
+told-is t m = ap (λ (g : Ground). cond (t && isLive m) (record { live = true; ground = g }) noNodeReport) (grounds (m .node))
 
 pub report-of : (t : Bool) (ms : List Member) → reportOf t ms ≡ reportFor t (map memberOutline ms)
 unfolding reportOf reportFor

@@ -19,14 +19,14 @@ use Rattle.node.specs.declared.Config.{Config}
 use Rattle.site.specs.declared.Table.{Table}
 use Rattle.site.specs.declared.Event.{Event}
 use Rattle.site.specs.declared.Event.the-variants.{Send, Hear, Close, Want}
-use Rattle.machine.specs.reports.Reports.{untold}
+use Rattle.machine.specs.reports.Reports.{noNodeReport}
 use Rattle.machine.specs.declared.Report.{Report}
 use Rattle.traces.specs.Reached.{begin}
 use Rattle.windows.specs.declared.Window.{Window}
 use Rattle.machine.specs.hours.Hours.{timedLoadAnswer}
 use Rattle.machine.specs.hours.Calls.{Call, runCalls}
 use Rattle.agreement.specs.daily.Daily.{beginBy}
-use Rattle.wants.specs.Wants.{withoutWants, SameButWants, reports, reportsBy, goodLists}
+use Rattle.wants.specs.Wants.{withoutWants, SameButWants, closeReports, reportsBy, goodLists}
 
 -- a packet area of zeros
 abbrev pub area : List ℕ
@@ -49,15 +49,15 @@ abbrev pub wantingTalk : List Event
 wantingTalk = Want 1 3 ∷ Send 2 ∷ Hear 1 1 ∷ Want 2 5 ∷ Close ∷ []
 
 -- windows that give node 1 two slots and node 2 none, and calls that are lent them
-abbrev pub given : List Window
-given = record { node = 1; first = 0; end = 1; demand = 2 } ∷ record { node = 2; first = 0; end = 1; demand = 0 } ∷ []
+abbrev pub exampleWindows : List Window
+exampleWindows = record { node = 1; first = 0; end = 1; demand = 2 } ∷ record { node = 2; first = 0; end = 1; demand = 0 } ∷ []
 
-abbrev pub calls : List Call
-calls = map (λ (e : Event). record { event = e; windows = given }) talk
+abbrev pub lentCalls : List Call
+lentCalls = map (λ (e : Event). record { event = e; windows = exampleWindows }) talk
 
 -- the rule's number and the missing node of nodes 1 and 2
 abbrev pub ruleIn : Report → ℕ → List ℕ
-ruleIn r i = ruleNumber (getD (r .told) i untold .ground .rule) ∷ getD (r .told) i untold .ground .missing ∷ []
+ruleIn r i = ruleNumber (getD (r .told) i noNodeReport .ground .rule) ∷ getD (r .told) i noNodeReport .ground .missing ∷ []
 
 abbrev pub rulesIn : List Report → List (List (List ℕ))
 rulesIn rs = map (λ (r : Report). ruleIn r 0 ∷ ruleIn r 1 ∷ []) rs
@@ -70,17 +70,19 @@ pub record Example : Type 0 where
   -- the hypotheses
   pub even-loads : loadAnswer pair (wanting 1 1) ≡ Done
   pub odd-loads : loadAnswer pair (wanting 2 0) ≡ Done
-  pub windows-load : timedLoadAnswer pair (wanting 1 1) 2 given ≡ Done
+  pub windows-load : timedLoadAnswer pair (wanting 1 1) 2 exampleWindows ≡ Done
   pub rows : SameButWants (wanting 1 1) (wanting 2 0)
   pub events : withoutWants talk ≡ withoutWants wantingTalk
-  pub lists : goodLists 2 2 calls ≡ true
+  pub lists : goodLists 2 2 lentCalls ≡ true
   -- node 1 sends a new schedule, and node 2 lacks the request of node 1
-  pub even-told : rulesIn (reports (begin pair (wanting 1 1) area) talk) ≡ ((7 ∷ 0 ∷ []) ∷ (1 ∷ 1 ∷ []) ∷ []) ∷ []
-  pub odd-told : rulesIn (reports (begin pair (wanting 2 0) area) wantingTalk) ≡ ((7 ∷ 0 ∷ []) ∷ (1 ∷ 1 ∷ []) ∷ []) ∷ []
-  pub windows-told : rulesIn (reportsBy (beginBy pair (wanting 1 1) 2 given area) calls) ≡ ((7 ∷ 0 ∷ []) ∷ (1 ∷ 1 ∷ []) ∷ []) ∷ []
+  pub even-told : rulesIn (closeReports (begin pair (wanting 1 1) area) talk) ≡ ((7 ∷ 0 ∷ []) ∷ (1 ∷ 1 ∷ []) ∷ []) ∷ []
+  pub odd-told : rulesIn (closeReports (begin pair (wanting 2 0) area) wantingTalk) ≡ ((7 ∷ 0 ∷ []) ∷ (1 ∷ 1 ∷ []) ∷ []) ∷ []
+  pub windows-told : rulesIn (reportsBy (beginBy pair (wanting 1 1) 2 exampleWindows area) lentCalls)
+      ≡ ((7 ∷ 0 ∷ []) ∷ (1 ∷ 1 ∷ []) ∷ []) ∷ []
   -- that schedule is another one, and so is the request of node 1 then
   pub even-owners : owners (memberAt (run (begin pair (wanting 1 1) area) talk .site) 1 .node) ≡ 1 ∷ 2 ∷ []
   pub odd-owners : owners (memberAt (run (begin pair (wanting 2 0) area) wantingTalk .site) 1 .node) ≡ 1 ∷ 1 ∷ []
-  pub windows-owners : owners (memberAt (runCalls (beginBy pair (wanting 1 1) 2 given area) calls .timed .site) 1 .node) ≡ 1 ∷ 1 ∷ []
+  pub windows-owners : owners
+      (memberAt (runCalls (beginBy pair (wanting 1 1) 2 exampleWindows area) lentCalls .timed .site) 1 .node) ≡ 1 ∷ 1 ∷ []
   pub even-request : memberAt (run (begin pair (wanting 1 1) area) talk .site) 1 .node .request ≡ 1
   pub odd-request : memberAt (run (begin pair (wanting 2 0) area) wantingTalk .site) 1 .node .request ≡ 3

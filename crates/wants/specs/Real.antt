@@ -13,7 +13,7 @@ use Rattle.site.specs.declared.Row.{Row}
 use Rattle.script.specs.load.Opening.{got, Opening, opening}
 use Rattle.desk.specs.listings.Output.{dayFits, unfit}
 use Rattle.desk.specs.listings.Why.{whyOf}
-use Rattle.wants.specs.Example.{area, pair, given}
+use Rattle.wants.specs.Example.{area, pair, exampleWindows}
 
 abbrev pub pairScript : List ℕ
 pairScript =
@@ -33,10 +33,10 @@ pairLines = ascii "send 2 0" ∷ ascii "hear 1 1" ∷ ascii "close 0 0" ∷ [] �
 pub record RealScript : Type 0 where
   pub fits : unfit pairScript area ≡ false
   pub opens : opening (split 10 pairScript) ≡ got pairOpening pairLines
-  pub day : dayFits 2 given pairOpening ≡ true
+  pub day : dayFits 2 exampleWindows pairOpening ≡ true
   pub no-windows : dayFits 1 [] pairOpening ≡ true
   -- what is printed with windows, and without them
-  pub first : whyOf 1 2 given pairScript area ≡ ascii "9 1 sent 0\n"
-  pub second : whyOf 2 2 given pairScript area ≡ ascii "9 2 missing 1\n"
+  pub first : whyOf 1 2 exampleWindows pairScript area ≡ ascii "9 1 sent 0\n"
+  pub second : whyOf 2 2 exampleWindows pairScript area ≡ ascii "9 2 missing 1\n"
   pub plain-first : whyOf 1 1 [] pairScript area ≡ ascii "9 1 sent 0\n"
   pub plain-second : whyOf 2 1 [] pairScript area ≡ ascii "9 2 missing 1\n"

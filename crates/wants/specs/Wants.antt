@@ -13,7 +13,7 @@ use Rattle.node.specs.declared.Answer.the-variants.{Done}
 use Rattle.site.specs.Answers.{answerOf}
 use Rattle.site.specs.Events.{isClose, isEnd}
 use Rattle.site.specs.Load.{noRow, loadAnswer}
-use Rattle.site.specs.Run.{World, after, run}
+use Rattle.site.specs.Run.{RunState, after, run}
 use Rattle.node.specs.declared.Config.{Config}
 use Rattle.site.specs.declared.Table.{Table}
 use Rattle.site.specs.Model.{Site}
@@ -25,7 +25,7 @@ use Rattle.traces.specs.Reached.{begin}
 use Rattle.windows.specs.Windows.{listOk}
 use Rattle.windows.specs.declared.Window.{Window}
 use Rattle.machine.specs.hours.Hours.{timedLoadAnswer, timedAnswer}
-use Rattle.machine.specs.hours.Calls.{Call, TimedWorld, afterCall, runCalls}
+use Rattle.machine.specs.hours.Calls.{Call, TimedState, afterCall, runCalls}
 use Rattle.agreement.specs.daily.Daily.{beginBy}
 use Rattle.wants.specs.Outline.{siteOutline}
 
@@ -41,13 +41,13 @@ isWant (Crash j) = false
 isWant (Restart j flags) = false
 
 -- an element before others where a test is met
-abbrev pub among : {A : Type 0} → Bool → A → List A → List A
-among t x l = cond t (x ∷ l) l
+abbrev pub prependedIf : {A : Type 0} → Bool → A → List A → List A
+prependedIf t x l = cond t (x ∷ l) l
 
 -- a list of events without its wants
 unfoldable pub withoutWants : List Event → List Event
 withoutWants [] = []
-withoutWants (e ∷ es) = among (not (isWant e)) e (withoutWants es)
+withoutWants (e ∷ es) = prependedIf (not (isWant e)) e (withoutWants es)
 
 -- two tables that differ in their wants alone
 pub record SameButWants (t u : Table) : Type 0 where
@@ -59,24 +59,24 @@ abbrev pub reportAt : Site → List ℕ → Event → Report
 reportAt s area e = reportOf (isReported s area e) (s .members)
 
 -- the reports of all closes of a list, a refused one's too
-unfoldable pub reports : World → List Event → List Report
-reports w [] = []
-reports w (e ∷ es) = among (isClose e) (reportAt (w .site) (w .area) e) (reports (after w e) es)
+unfoldable pub closeReports : RunState → List Event → List Report
+closeReports w [] = []
+closeReports w (e ∷ es) = prependedIf (isClose e) (reportAt (w .site) (w .area) e) (closeReports (after w e) es)
 
 -- the answers to all events of a list that are no wants
-unfoldable pub answers : World → List Event → List Answer
+unfoldable pub answers : RunState → List Event → List Answer
 answers w [] = []
-answers w (e ∷ es) = among (not (isWant e)) (answerOf (w .site) (w .area) e) (answers (after w e) es)
+answers w (e ∷ es) = prependedIf (not (isWant e)) (answerOf (w .site) (w .area) e) (answers (after w e) es)
 
 -- the same of a list of calls with windows
-unfoldable pub reportsBy : TimedWorld → List Call → List Report
+unfoldable pub reportsBy : TimedState → List Call → List Report
 reportsBy w [] = []
-reportsBy w (c ∷ cs) = among (isClose (c .event)) (reportAt (w .timed .site) (w .area) (c .event)) (reportsBy (afterCall w c) cs)
+reportsBy w (c ∷ cs) = prependedIf (isClose (c .event)) (reportAt (w .timed .site) (w .area) (c .event)) (reportsBy (afterCall w c) cs)
 
-unfoldable pub answersBy : TimedWorld → List Call → List Answer
+unfoldable pub answersBy : TimedState → List Call → List Answer
 answersBy w [] = []
 answersBy w (c ∷ cs) =
-    among (not (isWant (c .event))) (timedAnswer (w .timed) (w .area) (c .windows) (c .event)) (answersBy (afterCall w c) cs)
+    prependedIf (not (isWant (c .event))) (timedAnswer (w .timed) (w .area) (c .windows) (c .event)) (answersBy (afterCall w c) cs)
 
 -- each end is lent a list that keeps the rules of windows: none is refused as 16
 unfoldable pub goodLists : ℕ → ℕ → List Call → Bool
@@ -84,18 +84,18 @@ goodLists N D [] = true
 goodLists N D (c ∷ cs) = (not (isEnd (c .event)) || listOk N D (c .windows)) && goodLists N D cs
 
 -- the events of calls, without the windows
-abbrev pub eventsIn : List Call → List Event
-eventsIn cs = map (λ (c : Call). c .event) cs
+abbrev pub eventsOfCalls : List Call → List Event
+eventsOfCalls cs = map (λ (c : Call). c .event) cs
 
 -- two lists of events, each from its own site and area
-pub record SameReports (v : World) (es : List Event) (w : World) (gs : List Event) : Type 0 where
-  pub told : reports v es ≡ reports w gs
+pub record SameReports (v : RunState) (es : List Event) (w : RunState) (gs : List Event) : Type 0 where
+  pub told : closeReports v es ≡ closeReports w gs
   pub answered : answers v es ≡ answers w gs
   pub left : siteOutline (run v es .site) ≡ siteOutline (run w gs .site)
 
 -- a list of calls and a list of events
-pub record SameReportsBy (v : TimedWorld) (cs : List Call) (w : World) (gs : List Event) : Type 0 where
-  pub told : reportsBy v cs ≡ reports w gs
+pub record SameReportsBy (v : TimedState) (cs : List Call) (w : RunState) (gs : List Event) : Type 0 where
+  pub told : reportsBy v cs ≡ closeReports w gs
   pub answered : answersBy v cs ≡ answers w gs
   pub left : siteOutline (runCalls v cs .timed .site) ≡ siteOutline (run w gs .site)
 
@@ -105,4 +105,4 @@ pub record SameWithoutWants : Type 0 where
       → (area : List ℕ) (es gs : List Event)
       → withoutWants es ≡ withoutWants gs → SameReports (begin f t area) es (begin f u area) gs
   pub windows : (f : Config) (t : Table) (D : ℕ) (ws : List Window) → timedLoadAnswer f t D ws ≡ Done → (area : List ℕ) (cs : List Call)
-      → goodLists (f .nodes) D cs ≡ true → SameReportsBy (beginBy f t D ws area) cs (begin f t area) (eventsIn cs)
+      → goodLists (f .nodes) D cs ≡ true → SameReportsBy (beginBy f t D ws area) cs (begin f t area) (eventsOfCalls cs)

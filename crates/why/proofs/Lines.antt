@@ -16,13 +16,13 @@ use Rattle.node.specs.Answers.{number, isDone}
 use Rattle.node.specs.declared.Answer.{Answer}
 use Rattle.node.specs.declared.Answer.the-variants.{NoRoom, BadWindows}
 use Rattle.windows.specs.Windows.{listOk}
-use Rattle.machine.specs.hours.Calls.{TimedWorld}
+use Rattle.machine.specs.hours.Calls.{TimedState}
 use Rattle.script.specs.events.Events.{eventOf}
 use Rattle.script.specs.load.Opening.{Reading, Opening, opening, got}
-use Rattle.desk.specs.listing.Rows.{firstHead, reportLine, reportOf, rowsText}
-use Rattle.desk.specs.listings.Output.{secondHead, lineAnswer, lineAfter, lastReport, reports, loadedWorld, finished, ranText, unfit}
+use Rattle.desk.specs.listing.Rows.{firstHead, reportLine, refusalLine, rowsText}
+use Rattle.desk.specs.listings.Output.{secondHead, lineAnswer, lineAfter, lastReport, refusedLines, loadedState, finished, ranText, unfit}
 use Rattle.desk.specs.listings.Output.{splitTold, body, outputOf}
-use Rattle.why.specs.Refused.{one, count, refusedIn}
+use Rattle.why.specs.Refused.{one, byteCount, refusedIn}
 use Rattle.why.specs.Lines.{refusal, lastRefusal, refusals, LinesCounted}
 
 plus-none : (n : ℕ) → n ≡ 0 + n
@@ -33,10 +33,10 @@ less-one n = omega arith
 
 -- the ends of lines before the first byte 110
 abbrev ends : List ℕ → ℕ
-ends s = count 10 (take (before 110 s) s)
+ends s = byteCount 10 (take (before 110 s) s)
 
 ends-cons : (b : ℕ) (s : List ℕ) → (b ≡ 110 → ⊥) → ends (b ∷ s) ≡ one 10 b + ends s
-unfolding before count
+unfolding before byteCount
 ends-cons b s h = rw (ne-eqb b 110 h)
 
 -- a byte that ends no line, and is not 110
@@ -68,8 +68,8 @@ ends-line n x s =
     ∙ ends-digits 10 x (10 ∷ s)
     ∙ ends-cons 10 s (λ e. omega (arith, e))
 
-ends-report : (n : ℕ) (a : Answer) (s : List ℕ) → ends (reportOf n a ++ s) ≡ refusal a + ends s
-unfolding reportOf
+ends-report : (n : ℕ) (a : Answer) (s : List ℕ) → ends (refusalLine n a ++ s) ≡ refusal a + ends s
+unfolding refusalLine
 ends-report n a s = go (isDone a)
   where
     go : (t : Bool) → ends (cond t [] (reportLine n (number a)) ++ s) ≡ cond t 0 1 + ends s
@@ -80,30 +80,30 @@ ends-last : (n : ℕ) (l s : List ℕ) → ends (lastReport n l ++ s) ≡ lastRe
 ends-last n [] s = plus-none (ends s)
 ends-last n (b ∷ l) s = ends-report n _ s
 
-ends-reports : (w : TimedWorld) (n : ℕ) (ls : List (List ℕ)) (s : List ℕ) → ends (reports [] w n ls ++ s) ≡ refusals w ls + ends s
-unfolding reports refusals
+ends-reports : (w : TimedState) (n : ℕ) (ls : List (List ℕ)) (s : List ℕ) → ends (refusedLines [] w n ls ++ s) ≡ refusals w ls + ends s
+unfolding refusedLines refusals
 ends-reports w n [] s = plus-none (ends s)
 ends-reports w n (l ∷ []) s = ends-last n l s
 ends-reports w n (l ∷ m ∷ ls) s =
     let a : Answer = lineAnswer [] w (eventOf l) in
-    let v : TimedWorld = lineAfter [] w (eventOf l) in
-    let h : ends (reports [] v (n + 1) (m ∷ ls) ++ s) ≡ refusals v (m ∷ ls) + ends s = ends-reports v (n + 1) (m ∷ ls) s in
-    ap ends (append-assoc (reportOf n a) (reports [] v (n + 1) (m ∷ ls)) s)
-    ∙ ends-report n a (reports [] v (n + 1) (m ∷ ls) ++ s)
+    let v : TimedState = lineAfter [] w (eventOf l) in
+    let h : ends (refusedLines [] v (n + 1) (m ∷ ls) ++ s) ≡ refusals v (m ∷ ls) + ends s = ends-reports v (n + 1) (m ∷ ls) s in
+    ap ends (append-assoc (refusalLine n a) (refusedLines [] v (n + 1) (m ∷ ls)) s)
+    ∙ ends-report n a (refusedLines [] v (n + 1) (m ∷ ls) ++ s)
     ∙ omega (arith, h)
 
 -- under the second head nothing is counted
 ends-second : (s : List ℕ) → ends (secondHead ++ s) ≡ 0
-unfolding before count
+unfolding before byteCount
 ends-second s = refl
 
 -- the first head's own end is not counted
 head-plain : (s : List ℕ) → refusedIn (ascii "line refusal\n" ++ s) ≡ ends s
-unfolding refusedIn before count
+unfolding refusedIn before byteCount
 head-plain s = less-one (ends s)
 
 head-split : (s : List ℕ) → refusedIn (ascii "line refusal split\n" ++ s) ≡ ends s
-unfolding refusedIn before count
+unfolding refusedIn before byteCount
 head-split s = less-one (ends s)
 
 under-head : (k : ℕ) (s : List ℕ) → refusedIn (firstHead k ++ s) ≡ ends s
@@ -119,22 +119,22 @@ unfolding listOk allBelow
 day-fits N = refl
 
 -- what is counted under the first head
-ends-body : (o : Opening) (area : List ℕ) (ls : List (List ℕ)) → ends (body 1 [] area (got o ls)) ≡ refusals (loadedWorld 1 [] o area) ls
+ends-body : (o : Opening) (area : List ℕ) (ls : List (List ℕ)) → ends (body 1 [] area (got o ls)) ≡ refusals (loadedState 1 [] o area) ls
 ends-body o area ls =
-    let w : TimedWorld = loadedWorld 1 [] o area in
+    let w : TimedState = loadedState 1 [] o area in
     let rest : List ℕ = rowsText (o .config .nodes) 0 (finished 1 [] o area ls .timed .site .members) (o .config .slots) in
-    let h : ends (reports [] w (5 + o .config .nodes) ls ++ (secondHead ++ rest)) ≡ refusals w ls + ends (secondHead ++ rest) =
+    let h : ends (refusedLines [] w (5 + o .config .nodes) ls ++ (secondHead ++ rest)) ≡ refusals w ls + ends (secondHead ++ rest) =
     ends-reports w (5 + o .config .nodes) ls (secondHead ++ rest) in
     let z : ends (secondHead ++ rest) ≡ 0 = ends-second rest in
-    ap (λ (t : Bool). ends (cond t (ranText 1 [] o area ls) (reportOf 0 BadWindows))) (day-fits (o .config .nodes)) ∙ omega (arith, h, z)
+    ap (λ (t : Bool). ends (cond t (ranText 1 [] o area ls) (refusalLine 0 BadWindows))) (day-fits (o .config .nodes)) ∙ omega (arith, h, z)
 
 -- a script that is read: what stands under its first head
 read-out : (script area : List ℕ) (r : Reading Opening) → unfit script area ≡ false → opening (split 10 script) ≡ r
     → refusedIn (outputOf 1 [] script area) ≡ ends (body 1 [] area r)
 unfolding outputOf
 read-out script area r u e =
-    under-head (splitTold script area) (cond (unfit script area) (reportOf 0 NoRoom) (body 1 [] area (opening (split 10 script))))
-    ∙ ap (λ (t : Bool). ends (cond t (reportOf 0 NoRoom) (body 1 [] area (opening (split 10 script))))) u
+    under-head (splitTold script area) (cond (unfit script area) (refusalLine 0 NoRoom) (body 1 [] area (opening (split 10 script))))
+    ∙ ap (λ (t : Bool). ends (cond t (refusalLine 0 NoRoom) (body 1 [] area (opening (split 10 script))))) u
     ∙ ap (λ (q : Reading Opening). ends (body 1 [] area q)) e
 
 pub lines-counted : LinesCounted

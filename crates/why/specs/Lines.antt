@@ -7,10 +7,10 @@ use Prim.Native.Nat.{ℕ, _+_}
 use Rattle.text.specs.Read.{split}
 use Rattle.node.specs.Answers.{isDone}
 use Rattle.node.specs.declared.Answer.{Answer}
-use Rattle.machine.specs.hours.Calls.{TimedWorld}
+use Rattle.machine.specs.hours.Calls.{TimedState}
 use Rattle.script.specs.events.Events.{eventOf}
 use Rattle.script.specs.load.Opening.{Opening, opening, got}
-use Rattle.desk.specs.listings.Output.{lineAnswer, lineAfter, loadedWorld, unfit, outputOf}
+use Rattle.desk.specs.listings.Output.{lineAnswer, lineAfter, loadedState, unfit, outputOf}
 use Rattle.why.specs.Refused.{refusedIn}
 
 -- 1 for a refusal
@@ -22,8 +22,8 @@ abbrev pub lastRefusal : List ℕ → ℕ
 lastRefusal [] = 0
 lastRefusal (b ∷ l) = 1
 
--- how many of the event lines are refused, run from a world without windows
-unfoldable pub refusals : TimedWorld → List (List ℕ) → ℕ
+-- how many of the event lines are refused, run from a state without windows
+unfoldable pub refusals : TimedState → List (List ℕ) → ℕ
 refusals w [] = 0
 refusals w (l ∷ []) = lastRefusal l
 refusals w (l ∷ m ∷ ls) = refusal (lineAnswer [] w (eventOf l)) + refusals (lineAfter [] w (eventOf l)) (m ∷ ls)
@@ -32,4 +32,4 @@ refusals w (l ∷ m ∷ ls) = refusal (lineAnswer [] w (eventOf l)) + refusals (
 pub record LinesCounted : Type 0 where
   pub run :
       (script area : List ℕ) (o : Opening) (ls : List (List ℕ)) → unfit script area ≡ false → opening (split 10 script) ≡ got o ls →
-      refusedIn (outputOf 1 [] script area) ≡ refusals (loadedWorld 1 [] o area) ls
+      refusedIn (outputOf 1 [] script area) ≡ refusals (loadedState 1 [] o area) ls

@@ -14,9 +14,9 @@ abbrev pub one : ℕ → ℕ → ℕ
 one c b = cond (eqb b c) 1 0
 
 -- how many bytes c there are
-unfoldable pub count : ℕ → List ℕ → ℕ
-count c [] = 0
-count c (b ∷ s) = one c b + count c s
+unfoldable pub byteCount : ℕ → List ℕ → ℕ
+byteCount c [] = 0
+byteCount c (b ∷ s) = one c b + byteCount c s
 
 -- the listing from the end of its first line on
 abbrev pub under : List ℕ → List ℕ
@@ -24,4 +24,4 @@ under listing = drop (before 10 listing) listing
 
 -- the ends of lines from there to the second head, or to the listing's end, but for that of the first line
 unfoldable pub refusedIn : List ℕ → ℕ
-refusedIn listing = count 10 (take (before 110 (under listing)) (under listing)) - 1
+refusedIn listing = byteCount 10 (take (before 110 (under listing)) (under listing)) - 1

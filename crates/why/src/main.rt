@@ -3,7 +3,7 @@
 // Refused lines have no reason, so it says on standard error how many there are. One byte above the greatest script is enough to know that
 // it is too long.
 ghost use mathlib.Core.Path.{_≡_};
-ghost use Rattle.why.specs.Refused.{one, count, refusedIn};
+ghost use Rattle.why.specs.Refused.{one, byteCount, refusedIn};
 use desk::View;
 use libc::STDERR_FILENO;
 use libc::STDOUT_FILENO;
@@ -20,7 +20,7 @@ fn one_of(b: u8, c: u8) -> usize
 
 // How many bytes c there are.
 fn count_of(s: &[u8], c: u8) -> usize
-    ensures { λ r. ⌜ r ≡ count c (now (s .entry)) ⌝ }
+    ensures { λ r. ⌜ r ≡ byteCount c (now (s .entry)) ⌝ }
 {
     let mut n: usize = 0;
     let mut i: usize = 0;

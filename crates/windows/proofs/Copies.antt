@@ -14,7 +14,8 @@ use Rattle.words.proofs.Tests.{hit, skip}
 use Rattle.lists.specs.All.{allBelow, tab}
 use Rattle.lists.proofs.Laws.{length-tab, getD-tab}
 use Rattle.windows.specs.Windows.{noWindow, windowAt}
-use Rattle.windows.specs.Copies.{places, windowIn, windowCount, windowsIn, noWindows, withWindow, copyFrom, copyOf, wordsOf, listOf}
+use Rattle.windows.specs.Copies.{places, windowIn, windowCount, windowsIn, noWindows, withWindow, copyFrom, copyOf, windowWords}
+use Rattle.windows.specs.Copies.{listOf}
 use Rattle.windows.specs.declared.Window.{Window}
 use Rattle.windows.specs.declared.Windows as D
 
@@ -167,7 +168,8 @@ grown l i w m h =
         λ j. record { node = a j; first = b j; end = c j; demand = d j }
 
 pub length-listed : (a : D.Windows) → length (a .list) ≡ 260 → a .count ≤ places → length (listOf a) ≡ a .count
-length-listed a l m = count-in (wordsOf a) ∙ count-whole (wordsOf a) (a .count) (omega (arith, l, m, length-take (4 * a .count) (a .list)))
+length-listed a l m = count-in (windowWords a)
+    ∙ count-whole (windowWords a) (a .count) (omega (arith, l, m, length-take (4 * a .count) (a .list)))
     m
 
 -- a copy of which i windows are read, with those that follow: the first 65 of all

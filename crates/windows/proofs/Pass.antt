@@ -50,10 +50,10 @@ and-mid true true false true = refl
 and-mid true true true false = refl
 and-mid true true true true = refl
 
-met-next : (N D : ℕ) (ws : List Window) (j e : ℕ) (s : Seen) → Pass N D ws j e s → s .k < s .i → s .i < s .n
+due-after-next : (N D : ℕ) (ws : List Window) (j e : ℕ) (s : Seen) → Pass N D ws j e s → s .k < s .i → s .i < s .n
     → Pass N D ws j e (meets s (windowAt ws (s .k)) (windowAt ws (s .i)))
 unfolding allBelow
-met-next N D ws j e s p l m =
+due-after-next N D ws j e s p l m =
     let x = dayOk D && allBelow (s .i) (entryOk N D ws) in
     let q : ℕ → Bool = λ n. not (overlap (windowAt ws n) (windowAt ws (s .i))) in
     record {
@@ -91,7 +91,7 @@ pub pass-turn : (N D : ℕ) (ws : List Window) (j e : ℕ) (s : Seen) → Pass N
     → Pass N D ws j e (turnOf N D j e s (windowAt ws (s .k)) (windowAt ws (s .i)))
 pass-turn N D ws j e s p l =
     by-test (Pass N D ws j e) (ltb (s .k) (s .i)) _ _
-    (λ t. met-next N D ws j e s p (ltb-true _ _ t) l)
+    (λ t. due-after-next N D ws j e s p (ltb-true _ _ t) l)
     (λ t. by-test (Pass N D ws j e) (ltb (s .i) (s .n)) _ s
     (λ u. pass-next N D ws j e s p (omega (arith, p .low, ltb-false (s .k) (s .i) t)) l)
     (λ u. p))

@@ -54,8 +54,8 @@ abbrev pub copyOf : List Window → D.Windows
 copyOf ws = copyFrom noWindows 0 ws
 
 -- the words in use, and the list that they stand for
-abbrev pub wordsOf : D.Windows → List ℕ
-wordsOf a = take (4 * a .count) (a .list)
+abbrev pub windowWords : D.Windows → List ℕ
+windowWords a = take (4 * a .count) (a .list)
 
 abbrev pub listOf : D.Windows → List Window
-listOf a = windowsIn (wordsOf a)
+listOf a = windowsIn (windowWords a)

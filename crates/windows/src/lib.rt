@@ -7,7 +7,7 @@ ghost use Rattle.lists.specs.All.{allBelow};
 ghost use mathlib.Core.Bool.{not, cond};
 ghost use Rattle.windows.specs.Windows.{dayOk, windowOk, isDue, overlap, entryOk, listOk, dueAt, lookedOf};
 ghost use Rattle.windows.specs.Inner.{follows, orderedAt, metOf, begunOf, turnOf, toldOf};
-ghost use Rattle.windows.specs.Copies.{windowIn, windowCount, windowsIn, noWindows, withWindow, copyOf, wordsOf};
+ghost use Rattle.windows.specs.Copies.{windowIn, windowCount, windowsIn, noWindows, withWindow, copyOf, windowWords};
 
 // What a node wants from an epoch of the day up to the one before `end`. The fields lie as C has them.
 #[repr(C)]
@@ -82,7 +82,7 @@ impl Windows {
 
     // How many words are in use.
     pub fn used(self) -> usize
-        ensures { λ r. ⌜ r ≡ length (wordsOf self) ⌝ }
+        ensures { λ r. ⌜ r ≡ length (windowWords self) ⌝ }
     {
         if self.count < 65 {
             return 4 * self.count;
@@ -216,7 +216,7 @@ pub fn due_at(l: &[u32], node: u32, epoch: u32, demand: u32) -> u32
     };
     for i in 0..n {
         let w = window_in(l, i);
-        s = met(s, w, node, epoch);
+        s = due_after(s, w, node, epoch);
     }
     if s.none {
         return demand;
@@ -225,7 +225,7 @@ pub fn due_at(l: &[u32], node: u32, epoch: u32, demand: u32) -> u32
 }
 
 // What is due after one window more. Most windows are of other nodes, and of those only the node is read.
-fn met(s: Due, w: Window, node: u32, epoch: u32) -> Due
+fn due_after(s: Due, w: Window, node: u32, epoch: u32) -> Due
     ensures { λ r. ⌜ r ≡ metOf node epoch s w ⌝ }
 {
     if w.node != node {

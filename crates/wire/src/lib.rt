@@ -60,7 +60,7 @@ fn part_start(index: u32) -> usize
 }
 
 // The packet of an index into its own part of an area; an area without that part stays as it was.
-pub fn place_packet(area: &mut [u8], index: u32, p: Packet) -> bool
+pub fn put_packet(area: &mut [u8], index: u32, p: Packet) -> bool
     ensures { λ r. ⌜ r ≡ hasPart (now (area .entry)) index ⌝ }
     ensures { λ _. ⌜ now (area .exit) ≡ cond (hasPart (now (area .entry)) index) (placed (now (area .entry)) index p)
         (now (area .entry)) ⌝ }

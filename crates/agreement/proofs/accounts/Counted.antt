@@ -12,13 +12,13 @@ use Rattle.node.specs.Figures.{isLast}
 use Rattle.site.specs.Answers.{answerOf}
 use Rattle.site.specs.Steps.{siteAfter, endedSite, placeAfter}
 use Rattle.site.specs.Events.{isEnd}
-use Rattle.site.specs.Run.{World, after}
+use Rattle.site.specs.Run.{RunState, after}
 use Rattle.site.specs.Model.{Site}
 use Rattle.site.specs.declared.Event.{Event}
 use Rattle.site.specs.declared.Event.the-variants.{Send, Hear, Close, Take, End, Want, Crash, Restart}
 use Rattle.traces.specs.Past.{Past, recorded, pastAfter}
-use Rattle.tally.specs.Counting.{topEpochs, tallyOk, counted}
-use Rattle.tally.specs.Ends.{schedulesAt, tallyAt, talliedAnswer, tallyAfter}
+use Rattle.tally.specs.Counting.{topEpochs, tallyOk, epochCounted}
+use Rattle.tally.specs.Ends.{schedulesOf, tallyAt, talliedAnswer, tallyAfter}
 use Rattle.tally.specs.declared.Tally.{Tally}
 use Rattle.tally.proofs.Valid.{counted-epochs}
 use Rattle.tally.proofs.Steps.{same-answer, end-counts}
@@ -36,8 +36,8 @@ end-goes past s t ok g = go (isLast (s .config) (s .place)) refl
     go : (b : Bool) → isLast (s .config) (s .place) ≡ b → Goes (recorded past s End (endedSite s)) (tallyAt (endedSite s) t)
     go true h =
         let p : eqb (placeAfter s) 0 ≡ true = ap (λ (x : ℕ). eqb x 0) (hit _ _ _ h) in
-        let u : tallyAt (endedSite s) t ≡ counted t (schedulesAt (endedSite s)) = hit _ _ _ p in
-        let v = ap (λ (x : Tally). x .epochs) u ∙ counted-epochs t (schedulesAt (endedSite s)) ok in
+        let u : tallyAt (endedSite s) t ≡ epochCounted t (schedulesOf (endedSite s)) = hit _ _ _ p in
+        let v = ap (λ (x : Tally). x .epochs) u ∙ counted-epochs t (schedulesOf (endedSite s)) ok in
         let q : recorded past s End (endedSite s) .epoch ≡ suc (past .epoch) = hit _ _ _ h in
         omega (arith, v, q, g)
     go false h =
@@ -48,7 +48,7 @@ end-goes past s t ok g = go (isLast (s .config) (s .place)) refl
         omega (arith, v, q, g)
 
 -- any other event begins no epoch
-still : (past : Past) (w : World) (t : Tally) (e : Event) → recorded past (w .site) e (after w e .site) .epoch ≡ past .epoch
+still : (past : Past) (w : RunState) (t : Tally) (e : Event) → recorded past (w .site) e (after w e .site) .epoch ≡ past .epoch
     → isEnd e ≡ false
     → Goes past t → Goes (pastAfter past w e) (tallyAfter (w .site) (w .area) t e)
 unfolding pastAfter tallyAfter
@@ -61,7 +61,7 @@ still past w t e x h g =
     omega (arith, v, q, g)
 
 -- an end, refused or not
-ends : (past : Past) (w : World) (t : Tally) → tallyOk t ≡ true → Goes past t
+ends : (past : Past) (w : RunState) (t : Tally) → tallyOk t ≡ true → Goes past t
     → Goes (pastAfter past w End) (tallyAfter (w .site) (w .area) t End)
 unfolding pastAfter tallyAfter siteAfter
 ends past w t ok g = go (isDone (answerOf (w .site) (w .area) End)) refl
@@ -82,7 +82,7 @@ ends past w t ok g = go (isDone (answerOf (w .site) (w .area) End)) refl
         let p : pastAfter past w End ≡ past = skip _ _ _ _ d refl in
         omega (arith, v, ap (λ (x : Past). x .epoch) p, g)
 
-pub goes : (past : Past) (w : World) (t : Tally) (e : Event) → tallyOk t ≡ true → Goes past t
+pub goes : (past : Past) (w : RunState) (t : Tally) (e : Event) → tallyOk t ≡ true → Goes past t
     → Goes (pastAfter past w e) (tallyAfter (w .site) (w .area) t e)
 goes past w t (Send j) ok g = still past w t (Send j) refl refl g
 goes past w t (Hear j p) ok g = still past w t (Hear j p) refl refl g

@@ -28,8 +28,8 @@ use Rattle.node.specs.declared.Config.{Config}
 use Rattle.site.specs.declared.Table.{Table}
 use Rattle.traces.specs.Reached.{begin}
 use Rattle.tally.specs.Claims.{sum, claimants}
-use Rattle.tally.specs.Counting.{tallyOk, added, counted}
-use Rattle.tally.specs.Ends.{schedulesAt, tallyAt, talliedAnswer, talliedSite, talliedArea, tallyAfter}
+use Rattle.tally.specs.Counting.{tallyOk, added, epochCounted}
+use Rattle.tally.specs.Ends.{schedulesOf, tallyAt, talliedAnswer, talliedSite, talliedArea, tallyAfter}
 use Rattle.agreement.specs.accounts.Accounts.{runTallied, account}
 
 config : Config
@@ -48,21 +48,21 @@ loads : loadAnswer config table ≡ Done
 unfolding config table loadAnswer tableOk rowOk startAnswer configOk flagsOk allBelow
 loads = refl
 
-one-claims : (claimants (schedulesAt (run (begin config table area) events .site)) 0 ≡ 1)
+one-claims : (claimants (schedulesOf (run (begin config table area) events .site)) 0 ≡ 1)
     × (run (begin config table area) events .site .negotiates ≡ true)
 unfolding config table area events run siteAfter areaAfter answerOf siteClose siteEnd closedSite endedSite loadedSite loadedMember begun
     waiting opened complete level verdict heardCounted due raised stayed closedNode closeAnswer
     withSelf nextRound waitsOn membersOf nextEpoch endedNode endAnswer requesters requestsWithin wordOf howMany ones onesIn iter tab
     allBelow asks dealOne dealRound dealt keepOne kept better chosen fillOne filled next
-    ownersOf ownerOf scheduleOf schedulesAt
+    ownersOf ownerOf scheduleOf schedulesOf
 one-claims = (refl, refl)
 
-counts : account config table area events .tally ≡ record { epochs = 2; total = 1; slots = 1 ∷ replicate 31 0; held = 1 ∷ replicate 31 0 }
-unfolding config table area events runTallied talliedAnswer talliedSite talliedArea tallyAfter tallyAt tallyOk added counted sum
-    schedulesAt
+counters : account config table area events .tally ≡ record { epochs = 2; total = 1; slots = 1 ∷ replicate 31 0; held = 1 ∷ replicate 31 0 }
+unfolding config table area events runTallied talliedAnswer talliedSite talliedArea tallyAfter tallyAt tallyOk added epochCounted sum
+    schedulesOf
     siteAfter areaAfter answerOf siteClose siteEnd closedSite endedSite loadedSite loadedMember begun waiting opened complete level verdict
     heardCounted due raised stayed closedNode closeAnswer
     withSelf nextRound waitsOn membersOf nextEpoch endedNode endAnswer requesters requestsWithin wordOf howMany ones onesIn iter tab
     allBelow asks dealOne dealRound dealt keepOne kept better chosen fillOne filled next
     ownersOf ownerOf scheduleOf
-counts = refl
+counters = refl

@@ -28,7 +28,7 @@ use Rattle.traces.specs.Reached.{begin}
 use Rattle.agreement.proofs.Theorem.{holds}
 use Rattle.traces.proofs.Always.{always}
 use Rattle.tally.specs.Claims.{claims, claimants}
-use Rattle.tally.specs.Ends.{ownSchedule, schedulesAt}
+use Rattle.tally.specs.Ends.{ownSchedule, schedulesOf}
 use Rattle.agreement.specs.accounts.Accounts.{ClaimedOnce}
 
 -- at most one of n has p, if any two that have it are the same
@@ -66,8 +66,8 @@ claim-of m k i e = go (isLive m) refl
     go false l = absurd (omega
         (arith, e, ap (λ (s : Schedule). ownerOf s k) (skip (isLive m) (m .node .schedule) free free l refl), free-owner k))
 
-claim-at : (s : Site) (k i : ℕ) → i < 32 → claims (schedulesAt s) k i ≡ true → Claim (getD (s .members) i nobody) k (i + 1)
-unfolding schedulesAt
+claim-at : (s : Site) (k i : ℕ) → i < 32 → claims (schedulesOf s) k i ≡ true → Claim (getD (s .members) i nobody) k (i + 1)
+unfolding schedulesOf
 claim-at s k i l e =
     claim-of (getD (s .members) i nobody) k i
     (ap (λ (x : Schedule). ownerOf x k) (sym (getD-tab noSchedule 32 (λ j. ownSchedule (getD (s .members) j nobody)) i l)) ∙ eqb-true _ _ e)
@@ -77,9 +77,9 @@ pub claimed-once : (s : Site) → Agreement s
     → ((i k : ℕ) → isLive (getD (s .members) i nobody) ≡ true → ownerOf (getD (s .members) i nobody .node .schedule) k ≡ i + 1
     → 0 < getD (s .members) i nobody .node .version)
     → ClaimedOnce s
-claimed-once s A above k = at-most-one 32 (claims (schedulesAt s) k) both
+claimed-once s A above k = at-most-one 32 (claims (schedulesOf s) k) both
   where
-    both : (i j : ℕ) → i < 32 → j < 32 → claims (schedulesAt s) k i ≡ true → claims (schedulesAt s) k j ≡ true → i ≡ j
+    both : (i j : ℕ) → i < 32 → j < 32 → claims (schedulesOf s) k i ≡ true → claims (schedulesOf s) k j ≡ true → i ≡ j
     both i j li lj x y =
         let p = claim-at s k i li x in
         let q = claim-at s k j lj y in

@@ -25,7 +25,7 @@ use Rattle.site.specs.Load.{noRow, loadedMember, loadedSite}
 use Rattle.site.specs.Members.{nobody, setupOf, isLive, downMember}
 use Rattle.site.specs.Steps.{siteAfter, endedSite, placeAfter}
 use Rattle.site.specs.Events.{isEnd}
-use Rattle.site.specs.Run.{World, after}
+use Rattle.site.specs.Run.{RunState, after}
 use Rattle.node.specs.declared.Config.{Config}
 use Rattle.site.specs.declared.Row.{Row}
 use Rattle.site.specs.declared.Table.{Table}
@@ -33,8 +33,8 @@ use Rattle.site.specs.Model.{Site}
 use Rattle.site.specs.declared.Event.{Event}
 use Rattle.site.specs.declared.Event.the-variants.{Send, Hear, Close, Take, End, Want, Crash, Restart}
 use Rattle.tally.specs.Claims.{claims}
-use Rattle.tally.specs.Counting.{topEpochs, first, slotsAt, heldAt, tallyOk, isFull, added, counted}
-use Rattle.tally.specs.Ends.{ownSchedule, schedulesAt, tallyAt, talliedAnswer, tallyAfter}
+use Rattle.tally.specs.Counting.{topEpochs, firstTally, slotsAt, heldAt, tallyOk, tallyFull, added, epochCounted}
+use Rattle.tally.specs.Ends.{ownSchedule, schedulesOf, tallyAt, talliedAnswer, tallyAfter}
 use Rattle.tally.specs.declared.Tally.{Tally}
 use Rattle.tally.proofs.Valid.{valid, not-full, slots-added, held-added, counted-epochs}
 use Rattle.tally.proofs.Steps.{same-answer, end-counts}
@@ -62,18 +62,19 @@ module _ (g : Site → ℕ) where
 
 -- What an event adds
 
-pub data Effect (w : World) (t : Tally) (e : Event) : Type 0 where
+pub data Effect (w : RunState) (t : Tally) (e : Event) : Type 0 where
   none : epochSite w e ≡ [] → tallyAfter (w .site) (w .area) t e ≡ t → Effect w t e
-  one : epochSite w e ≡ after w e .site ∷ [] → tallyAfter (w .site) (w .area) t e ≡ counted t (schedulesAt (after w e .site)) → Effect w t e
+  one : epochSite w e ≡ after w e .site ∷ [] → tallyAfter (w .site) (w .area) t e
+      ≡ epochCounted t (schedulesOf (after w e .site)) → Effect w t e
 
-no-end : (w : World) (t : Tally) (e : Event) → isEnd e ≡ false → Effect w t e
+no-end : (w : RunState) (t : Tally) (e : Event) → isEnd e ≡ false → Effect w t e
 unfolding epochSite tallyAfter
 no-end w t e h =
     none (skip _ _ _ _ (ap
     (λ (b : Bool). b && (isDone (answerOf (w .site) (w .area) e) && isLast (w .site .config) (w .site .place))) h) refl)
     (skip _ _ _ _ (ap (λ (b : Bool). b && isDone (talliedAnswer (w .site) (w .area) t e)) h) refl)
 
-an-end : (w : World) (t : Tally) → tallyOk t ≡ true → Effect w t End
+an-end : (w : RunState) (t : Tally) → tallyOk t ≡ true → Effect w t End
 unfolding epochSite tallyAfter tallyAt siteAfter endedSite
 an-end w t ok = go (isDone (answerOf (w .site) (w .area) End)) (isLast (w .site .config) (w .site .place)) refl refl
   where
@@ -89,9 +90,9 @@ an-end w t ok = go (isDone (answerOf (w .site) (w .area) End)) (isLast (w .site 
     go true true d l =
         let p : eqb (placeAfter (w .site)) 0 ≡ true = ap (λ (x : ℕ). eqb x 0) (hit _ _ _ l) in
         one (hit _ _ _ (ap₂ _&&_ d l))
-        (end-counts (w .site) (w .area) t ok d ∙ hit _ _ _ p ∙ ap (λ (s : Site). counted t (schedulesAt s)) (sym (hit _ _ _ d)))
+        (end-counts (w .site) (w .area) t ok d ∙ hit _ _ _ p ∙ ap (λ (s : Site). epochCounted t (schedulesOf s)) (sym (hit _ _ _ d)))
 
-pub effect : (w : World) (t : Tally) (e : Event) → tallyOk t ≡ true → Effect w t e
+pub effect : (w : RunState) (t : Tally) (e : Event) → tallyOk t ≡ true → Effect w t e
 effect w t (Send j) ok = no-end w t (Send j) refl
 effect w t (Hear j p) ok = no-end w t (Hear j p) refl
 effect w t Close ok = no-end w t Close refl
@@ -114,32 +115,32 @@ length-more (r ∷ l) s = let e = length-more l s in omega (arith, e)
 
 -- a valid tally that is not full grows, and a full one stays
 counted-read : (read : Tally → ℕ) (t : Tally) (l : List Schedule) (x : ℕ) → tallyOk t ≡ true
-    → (t .epochs < topEpochs → read (added t l) ≡ x) → (t .epochs ≡ topEpochs → read t ≡ x) → read (counted t l) ≡ x
-unfolding counted
+    → (t .epochs < topEpochs → read (added t l) ≡ x) → (t .epochs ≡ topEpochs → read t ≡ x) → read (epochCounted t l) ≡ x
+unfolding epochCounted
 counted-read read t l x ok f g =
-    by-test (λ (y : Tally). read y ≡ x) (tallyOk t && not (isFull t)) (added t l) t
+    by-test (λ (y : Tally). read y ≡ x) (tallyOk t && not (tallyFull t)) (added t l) t
     (λ h. f (not-full t (valid t ok) (and-right (tallyOk t) _ h)))
-    (λ h. g (eqb-true (t .epochs) topEpochs (not-false (isFull t) (and-rest (tallyOk t) _ h ok))))
+    (λ h. g (eqb-true (t .epochs) topEpochs (not-false (tallyFull t) (and-rest (tallyOk t) _ h ok))))
 
-sums-counted : (l : List Site) (t : Tally) (s : Site) → tallyOk t ≡ true → Sums l t → Sums (l ++ (s ∷ [])) (counted t (schedulesAt s))
+sums-counted : (l : List Site) (t : Tally) (s : Site) → tallyOk t ≡ true → Sums l t → Sums (l ++ (s ∷ [])) (epochCounted t (schedulesOf s))
 sums-counted l t s ok k =
     record {
       epochs =
-          let a = counted-epochs t (schedulesAt s) ok in
+          let a = counted-epochs t (schedulesOf s) ok in
           let b = length-more l s in
           let h = k .epochs in
           omega (arith, a, b, h);
-      slots = λ i n. grown (λ (x : Tally). slotsAt x i) (slotsHeld i) (k .slots i n) (slots-added t (schedulesAt s) i n);
-      held = λ i n. grown (λ (x : Tally). heldAt x i) (holdsOne i) (k .held i n) (held-added t (schedulesAt s) i n);
+      slots = λ i n. grown (λ (x : Tally). slotsAt x i) (slotsHeld i) (k .slots i n) (slots-added t (schedulesOf s) i n);
+      held = λ i n. grown (λ (x : Tally). heldAt x i) (holdsOne i) (k .held i n) (held-added t (schedulesOf s) i n);
     }
   where
-    grown : (read : Tally → ℕ) (g : Site → ℕ) → read t ≡ sumOver g (take topEpochs l) → read (added t (schedulesAt s)) ≡ read t + g s
-        → read (counted t (schedulesAt s)) ≡ sumOver g (take topEpochs (l ++ (s ∷ [])))
-    grown read g e d = counted-read read t (schedulesAt s) _ ok
+    grown : (read : Tally → ℕ) (g : Site → ℕ) → read t ≡ sumOver g (take topEpochs l) → read (added t (schedulesOf s)) ≡ read t + g s
+        → read (epochCounted t (schedulesOf s)) ≡ sumOver g (take topEpochs (l ++ (s ∷ [])))
+    grown read g e d = counted-read read t (schedulesOf s) _ ok
         (λ r. let h = k .epochs in d ∙ ap (λ (x : ℕ). x + g s) e ∙ sym (sum-room g topEpochs l s (omega (arith, r, h))))
         (λ r. let h = k .epochs in e ∙ sym (sum-full g topEpochs l s (omega (arith, r, h))))
 
-pub sums-step : (l : List Site) (w : World) (t : Tally) (e : Event) → tallyOk t ≡ true → Sums l t
+pub sums-step : (l : List Site) (w : RunState) (t : Tally) (e : Event) → tallyOk t ≡ true → Sums l t
     → Sums (l ++ epochSite w e) (tallyAfter (w .site) (w .area) t e)
 sums-step l w t e ok k = go (effect w t e ok)
   where
@@ -170,12 +171,12 @@ loaded-free f t i = go (ltb i (f .nodes))
     go false = refl
 
 none-loaded : (f : Config) (t : Table) (i : ℕ) → i < 32 → slotsHeld i (loadedSite f t) ≡ 0
-unfolding schedulesAt loadedSite
-none-loaded f t i n = none-of 80 (λ k. claims (schedulesAt (loadedSite f t)) k i)
+unfolding schedulesOf loadedSite
+none-loaded f t i n = none-of 80 (λ k. claims (schedulesOf (loadedSite f t)) k i)
     (λ k m. ap (λ (x : ℕ). eqb x (i + 1)) (ap (λ (y : Schedule). ownerOf y k) is-free ∙ owner-free k)
     ∙ ne-eqb 0 (i + 1) (λ z. omega (arith, z)))
   where
-    is-free : getD (schedulesAt (loadedSite f t)) i noSchedule ≡ free
+    is-free : getD (schedulesOf (loadedSite f t)) i noSchedule ≡ free
     is-free = getD-tab noSchedule 32 (λ j. ownSchedule (getD (tab 32 (loadedMember f t)) j nobody)) i n
         ∙ ap ownSchedule (getD-tab nobody 32 (loadedMember f t) i n) ∙ loaded-free f t i
 
@@ -187,7 +188,7 @@ one-sum : (g : Site → ℕ) (s : Site) → g s ≡ 0 → 0 ≡ sumOver g (take 
 unfolding sumOver
 one-sum g s e = let h : 0 ≡ g s + 0 = omega (arith, e) in h ∙ ap (sumOver g) (sym (take-one topEpochs s (omega arith)))
 
-pub sums-loaded : (f : Config) (t : Table) → Sums (loadedSite f t ∷ []) first
+pub sums-loaded : (f : Config) (t : Table) → Sums (loadedSite f t ∷ []) firstTally
 sums-loaded f t =
     record {
       epochs = refl;

@@ -12,13 +12,13 @@ use Rattle.node.specs.declared.Answer.the-variants.{Done, NotANode}
 use Rattle.site.specs.Answers.{answerOf}
 use Rattle.site.specs.Events.{isEnd}
 use Rattle.site.specs.Steps.{siteAfter, areaAfter, nextSite, nextArea}
-use Rattle.site.specs.Run.{World, after, run}
+use Rattle.site.specs.Run.{RunState, after, run}
 use Rattle.tally.specs.Counting.{tallyOk}
 use Rattle.tally.specs.Ends.{talliedAnswer, talliedSite, talliedArea, tallyAfter}
 use Rattle.tally.proofs.Steps.{same-answer}
 use Rattle.agreement.specs.accounts.Accounts.{LentCall, afterLent, runLent, isSpoilt, heeded}
 
-module _ (w : World) (c : LentCall) where
+module _ (w : RunState) (c : LentCall) where
   abbrev answer : Answer
   answer = talliedAnswer (w .site) (w .area) (c .tally) (c .event)
 
@@ -49,17 +49,17 @@ module _ (w : World) (c : LentCall) where
       go true e true k = same-answer (w .site) (w .area) (c .tally) k (c .event)
       go true e false k = clash (isSpoilt c) (rw (e, k) refl) h
 
-  spoilt-world : isSpoilt c ≡ true → afterLent w c ≡ w
+  spoilt-state : isSpoilt c ≡ true → afterLent w c ≡ w
   unfolding talliedSite talliedArea
-  spoilt-world h =
+  spoilt-state h =
       let d = spoilt-refused h in
       let s : talliedSite (w .site) (w .area) (c .tally) (c .event) ≡ w .site = skip _ _ _ _ d refl in
       let l : talliedArea (w .site) (w .area) (c .tally) (c .event) ≡ w .area = skip _ _ _ _ d refl in
       λ i. record { site = s i; area = l i }
 
-  heeded-world : isSpoilt c ≡ false → afterLent w c ≡ after w (c .event)
+  heeded-state : isSpoilt c ≡ false → afterLent w c ≡ after w (c .event)
   unfolding talliedSite talliedArea siteAfter areaAfter
-  heeded-world h =
+  heeded-state h =
       let q = heeded-answer h in
       λ i. record {
         site = cond (isDone (q i)) (nextSite (w .site) (w .area) (c .event)) (w .site);
@@ -75,12 +75,12 @@ module _ (w : World) (c : LentCall) where
       and-no true = refl
       and-no false = refl
 
-pub run-heeded : (w : World) (cs : List LentCall) → runLent w cs ≡ run w (heeded cs)
+pub run-heeded : (w : RunState) (cs : List LentCall) → runLent w cs ≡ run w (heeded cs)
 unfolding runLent heeded run
 run-heeded w [] = refl
-run-heeded w (c ∷ cs) = go (isSpoilt c) refl (λ (v : World). run-heeded v cs)
+run-heeded w (c ∷ cs) = go (isSpoilt c) refl (λ (v : RunState). run-heeded v cs)
   where
-    go : (b : Bool) → isSpoilt c ≡ b → ((v : World) → runLent v cs ≡ run v (heeded cs))
+    go : (b : Bool) → isSpoilt c ≡ b → ((v : RunState) → runLent v cs ≡ run v (heeded cs))
         → runLent (afterLent w c) cs ≡ run w (cond b [] (c .event ∷ []) ++ heeded cs)
-    go true h r = ap (λ (v : World). runLent v cs) (spoilt-world w c h) ∙ r w
-    go false h r = ap (λ (v : World). runLent v cs) (heeded-world w c h) ∙ r (after w (c .event))
+    go true h r = ap (λ (v : RunState). runLent v cs) (spoilt-state w c h) ∙ r w
+    go false h r = ap (λ (v : RunState). runLent v cs) (heeded-state w c h) ∙ r (after w (c .event))

@@ -5,7 +5,7 @@ use mathlib.Core.Bool.{true}
 use mathlib.Core.List.{List, [], _∷_, _++_, append-nil, append-assoc}
 use Prim.Native.Nat.{ℕ}
 use Rattle.site.specs.Load.{loadedSite}
-use Rattle.site.specs.Run.{World, after, run}
+use Rattle.site.specs.Run.{RunState, after, run}
 use Rattle.node.specs.declared.Config.{Config}
 use Rattle.site.specs.declared.Table.{Table}
 use Rattle.site.specs.declared.Event.{Event}
@@ -14,7 +14,7 @@ use Rattle.traces.specs.Past.{Past, noPast, pastAfter, trace}
 use Rattle.traces.specs.Reached.{begin}
 use Rattle.agreement.proofs.Theorem.{holds}
 use Rattle.tally.specs.Counting.{tallyOk}
-use Rattle.tally.specs.Ends.{schedulesAt}
+use Rattle.tally.specs.Ends.{schedulesOf}
 use Rattle.tally.proofs.Valid.{first-valid, valid, by-nodes}
 use Rattle.tally.proofs.Steps.{same-answer, same-site, same-area, stays-valid}
 use Rattle.agreement.specs.accounts.Accounts.{Account, afterTallied, runTallied, account, epochSite, epochSites, heeded, Accounts}
@@ -24,32 +24,32 @@ use Rattle.agreement.proofs.accounts.Spoilt.{run-heeded, spoilt-stays}
 use Rattle.agreement.proofs.accounts.Once.{once}
 
 -- what holds after each event
-pub record Keeps (past : Past) (w : World) (l : List Site) (a : Account) : Type 0 where
-  pub world : a .world ≡ w
+pub record Keeps (past : Past) (w : RunState) (l : List Site) (a : Account) : Type 0 where
+  pub state : a .state ≡ w
   pub ok : tallyOk (a .tally) ≡ true
   pub epochs : Goes past (a .tally)
   pub sums : Sums l (a .tally)
 
-step : {past : Past} {w : World} {l : List Site} {a : Account} (e : Event) → Keeps past w l a
+step : {past : Past} {w : RunState} {l : List Site} {a : Account} (e : Event) → Keeps past w l a
     → Keeps (pastAfter past w e) (after w e) (l ++ epochSite w e) (afterTallied a e)
-step {past} {w} {l} {a} e k = subst (λ (x : World). Keeps (pastAfter past x e) (after x e) (l ++ epochSite x e) (afterTallied a e))
-    (k .world) here
+step {past} {w} {l} {a} e k = subst (λ (x : RunState). Keeps (pastAfter past x e) (after x e) (l ++ epochSite x e) (afterTallied a e))
+    (k .state) here
   where
-    v : World
-    v = a .world
+    v : RunState
+    v = a .state
 
     here : Keeps (pastAfter past v e) (after v e) (l ++ epochSite v e) (afterTallied a e)
     here =
         let s = same-site (v .site) (v .area) (a .tally) (k .ok) e in
         let r = same-area (v .site) (v .area) (a .tally) (k .ok) e in
         record {
-          world = λ i. record { site = s i; area = r i };
+          state = λ i. record { site = s i; area = r i };
           ok = stays-valid (v .site) (v .area) (a .tally) e (k .ok);
           epochs = goes past v (a .tally) e (k .ok) (k .epochs);
           sums = sums-step l v (a .tally) e (k .ok) (k .sums);
         }
 
-steps : {past : Past} {w : World} {l : List Site} {a : Account} (es : List Event) → Keeps past w l a
+steps : {past : Past} {w : RunState} {l : List Site} {a : Account} (es : List Event) → Keeps past w l a
     → Keeps (trace past w es) (run w es) (l ++ epochSites w es) (runTallied a es)
 unfolding trace run runTallied epochSites
 steps {past} {w} {l} {a} [] k = subst (λ (x : List Site). Keeps past w x a) (sym (append-nil l)) k
@@ -60,17 +60,17 @@ steps {past} {w} {l} {a} (e ∷ es) k =
 kept : (f : Config) (t : Table) (area : List ℕ) (es : List Event)
     → Keeps (trace (noPast (loadedSite f t)) (begin f t area) es) (run (begin f t area) es)
     (loadedSite f t ∷ epochSites (begin f t area) es) (account f t area es)
-kept f t area es = steps es (record { world = refl; ok = first-valid; epochs = refl; sums = sums-loaded f t })
+kept f t area es = steps es (record { state = refl; ok = first-valid; epochs = refl; sums = sums-loaded f t })
 
 pub accounts : Accounts
 accounts =
     record {
-      meets = λ s. by-nodes (schedulesAt s);
+      meets = λ s. by-nodes (schedulesOf s);
       accounted = λ f t d area es.
           let k = kept f t area es in
           let w = run (begin f t area) es in
           record {
-            world = k .world;
+            state = k .state;
             answers = λ e. same-answer (w .site) (w .area) (account f t area es .tally) (k .ok) e;
             valid = k .ok;
             epochs = k .epochs;
@@ -81,7 +81,7 @@ accounts =
           };
       lent = λ f t d area cs.
           record {
-            world = run-heeded (begin f t area) cs;
+            state = run-heeded (begin f t area) cs;
             demand3 = λ u. holds .demand3 f t d u area
                 (heeded cs);
             tally = λ w c h. spoilt-stays w c h;

@@ -14,7 +14,7 @@ use Rattle.site.specs.Load.{loadedMember, loadedSite}
 use Rattle.site.specs.Answers.{areaSize, siteEnd, answerOf}
 use Rattle.site.specs.Events.{isEnd}
 use Rattle.site.specs.Steps.{endedSite, nextSite, siteAfter, areaAfter}
-use Rattle.site.specs.Run.{World, after, run}
+use Rattle.site.specs.Run.{RunState, after, run}
 use Rattle.node.specs.declared.Config.{Config}
 use Rattle.site.specs.declared.Table.{Table}
 use Rattle.site.specs.Model.{Site}
@@ -23,14 +23,14 @@ use Rattle.site.specs.declared.Event.the-variants.{End}
 use Rattle.site.proofs.Accepted.{answered}
 use Rattle.site.proofs.Steps.{members-kept}
 use Rattle.traces.specs.Past.{Determination, Past, noPast, recorded, pastAfter, trace}
-use Rattle.agreement.specs.Demand.{Agreement, Grounded, SameDetermination}
+use Rattle.agreement.specs.Demand.{Agreement, Justified, SameDetermination}
 use Rattle.agreement.proofs.Theorem.{holds}
 use Rattle.windows.specs.Windows.{listOk}
 use Rattle.windows.specs.declared.Window.{Window}
 use Rattle.machine.specs.hours.Hours.{Timed, epochAfter, givenSite, givenTable, timedLoadAnswer, loadedTimed, inLastRound, timedAnswer}
 use Rattle.machine.specs.hours.Hours.{givenBefore}
 use Rattle.machine.specs.hours.Hours.{nextTimed, timedAfter}
-use Rattle.machine.specs.hours.Calls.{Call, TimedWorld, afterCall, runCalls}
+use Rattle.machine.specs.hours.Calls.{Call, TimedState, afterCall, runCalls}
 use Rattle.machine.proofs.hours.Laws.{loaded-site, end-area, end-plain, end-is, plain-answer, plain-after}
 use Rattle.agreement.specs.daily.Daily.{wantsOf, eventsOf, eventsOfAll, beginBy, pastAfterCall, traceCalls, Plain, Daily}
 use Rattle.agreement.proofs.daily.Wants.{run-append, trace-append, wants-all, wants-past}
@@ -42,24 +42,24 @@ unfolding siteAfter
 long-after s area e h = by-test (λ (x : Site). length (x .members) ≡ 32) (isDone (answerOf s area e)) (nextSite s area e) s
     (λ t. members-kept s area e ∙ h) (λ t. h)
 
-pub long-run : (w : World) (es : List Event) → length (w .site .members) ≡ 32 → length (run w es .site .members) ≡ 32
+pub long-run : (w : RunState) (es : List Event) → length (w .site .members) ≡ 32 → length (run w es .site .members) ≡ 32
 unfolding run
 long-run w [] h = h
 long-run w (e ∷ es) h = long-run (after w e) es (long-after (w .site) (w .area) e h)
 
 -- the site of a call, with its area
-abbrev pub plainOf : TimedWorld → World
+abbrev pub plainOf : TimedState → RunState
 plainOf w = record { site = w .timed .site; area = w .area }
 
 -- a call and its events come to the same site, the same area and the same past
-record Same (past : Past) (w : TimedWorld) (c : Call) (es : List Event) : Type 0 where
-  world : run (plainOf w) es ≡ plainOf (afterCall w c)
+record Same (past : Past) (w : TimedState) (c : Call) (es : List Event) : Type 0 where
+  state : run (plainOf w) es ≡ plainOf (afterCall w c)
   traced : trace past (plainOf w) es ≡ pastAfterCall past w c
 
 abbrev callOf : Event → List Window → Call
 callOf e ws = record { event = e; windows = ws }
 
-module _ (past : Past) (w : TimedWorld) (ws : List Window) (long : length (w .timed .site .members) ≡ 32) where
+module _ (past : Past) (w : TimedState) (ws : List Window) (long : length (w .timed .site .members) ≡ 32) where
   abbrev t : Timed
   t = w .timed
 
@@ -72,7 +72,7 @@ module _ (past : Past) (w : TimedWorld) (ws : List Window) (long : length (w .ti
   unfolding run trace pastAfterCall pastAfter
   same-one e a b =
       record {
-        world = λ i. record { site = sym b i; area = areaAfter s (w .area) e };
+        state = λ i. record { site = sym b i; area = areaAfter s (w .area) e };
         traced = (λ i. cond (isDone (sym a i)) (recorded past s e (sym b i)) past);
       }
 
@@ -94,7 +94,7 @@ module _ (past : Past) (w : TimedWorld) (ws : List Window) (long : length (w .ti
       let a : timedAnswer t (w .area) ws End ≡ BadWindows = hit _ _ _ h ∙ skip _ _ _ _ k refl in
       let q : t ≡ timedAfter t (w .area) ws End = sym (skip _ _ t t (ap isDone a) refl) in
       record {
-        world = λ i. record { site = q i .site; area = end-area s (w .area) i };
+        state = λ i. record { site = q i .site; area = end-area s (w .area) i };
         traced = sym (skip (isDone (timedAnswer t (w .area) ws End)) _ past past (ap isDone a) refl);
       }
 
@@ -133,12 +133,12 @@ module _ (past : Past) (w : TimedWorld) (ws : List Window) (long : length (w .ti
         let b : siteAfter g (w .area) End ≡ timedAfter t (w .area) ws End .site = sym
         (after-site ∙ ap (λ (x : Site). siteAfter x (w .area) End) (hit _ _ s l)) in
         record {
-          world = run-append (plainOf w) (wantsOf ws (epochAfter (t .day)) 32) (End ∷ []) ∙ ap (λ (x : World). after x End) r
+          state = run-append (plainOf w) (wantsOf ws (epochAfter (t .day)) 32) (End ∷ []) ∙ ap (λ (x : RunState). after x End) r
               ∙ (λ i. record { site = b i; area = (sym (end-area g (w .area)) ∙ end-area s (w .area)) i });
           traced = trace-append past (plainOf w) (wantsOf ws (epochAfter (t .day)) 32) (End ∷ [])
               ∙ ap (λ (p : Past). trace p (run (plainOf w) (wantsOf ws (epochAfter (t .day)) 32)) (End ∷ []))
               (wants-past past (plainOf w) ws (epochAfter (t .day)) 32)
-              ∙ ap (λ (x : World). trace past x (End ∷ [])) r
+              ∙ ap (λ (x : RunState). trace past x (End ∷ [])) r
               ∙ hit _ _ past (ap isDone given-answer ∙ h)
               ∙ given-past
               ∙ ap (recorded past s End) b
@@ -146,7 +146,7 @@ module _ (past : Past) (w : TimedWorld) (ws : List Window) (long : length (w .ti
         }
 
 -- each call and its events
-same : (past : Past) (w : TimedWorld) (c : Call) → length (w .timed .site .members) ≡ 32 → Same past w c (eventsOf w c)
+same : (past : Past) (w : TimedState) (c : Call) → length (w .timed .site .members) ≡ 32 → Same past w c (eventsOf w c)
 unfolding eventsOf
 same past w c long = go (isEnd (c .event)) refl (isDone (answerOf (w .timed .site) (w .area) (c .event))) refl
   where
@@ -180,20 +180,20 @@ same past w c long = go (isEnd (c .event)) refl (isDone (answerOf (w .timed .sit
         (same-plain past w (c .windows) long (c .event) p)
 
 -- each list of calls and its events
-pub same-all : (past : Past) (w : TimedWorld) (cs : List Call) → length (w .timed .site .members) ≡ 32
+pub same-all : (past : Past) (w : TimedState) (cs : List Call) → length (w .timed .site .members) ≡ 32
     → (run (plainOf w) (eventsOfAll w cs) ≡ plainOf (runCalls w cs)) × (trace past (plainOf w) (eventsOfAll w cs) ≡ traceCalls past w cs)
 unfolding run trace runCalls traceCalls eventsOfAll
 same-all past w [] long = (refl, refl)
 same-all past w (c ∷ cs) long =
     let x = same past w c long in
-    let l : length (afterCall w c .timed .site .members) ≡ 32 = subst (λ (v : World). length (v .site .members) ≡ 32) (x .world)
+    let l : length (afterCall w c .timed .site .members) ≡ 32 = subst (λ (v : RunState). length (v .site .members) ≡ 32) (x .state)
     (long-run (plainOf w) (eventsOf w c) long) in
     let y = same-all (pastAfterCall past w c) (afterCall w c) cs l in (
       run-append (plainOf w) (eventsOf w c) (eventsOfAll (afterCall w c) cs)
-          ∙ ap (λ (v : World). run v (eventsOfAll (afterCall w c) cs)) (x .world) ∙ y .0,
+          ∙ ap (λ (v : RunState). run v (eventsOfAll (afterCall w c) cs)) (x .state) ∙ y .0,
       trace-append past (plainOf w) (eventsOf w c) (eventsOfAll (afterCall w c) cs)
           ∙ ap (λ (p : Past). trace p (run (plainOf w) (eventsOf w c)) (eventsOfAll (afterCall w c) cs)) (x .traced)
-          ∙ ap (λ (v : World). trace (pastAfterCall past w c) v (eventsOfAll (afterCall w c) cs)) (x .world)
+          ∙ ap (λ (v : RunState). trace (pastAfterCall past w c) v (eventsOfAll (afterCall w c) cs)) (x .state)
           ∙ y .1,
     )
 
@@ -212,7 +212,7 @@ plain f t D ws h area cs =
     let es = eventsOfAll (beginBy f t D ws area) cs in
     record {
       loads = given-loads f t D ws (p .1) (p .0);
-      site = sym (ap (λ (w : World). w .site) (x .0)) ∙ ap (λ (s : Site). run (record { site = s; area = area }) es .site) e;
+      site = sym (ap (λ (w : RunState). w .site) (x .0)) ∙ ap (λ (s : Site). run (record { site = s; area = area }) es .site) e;
       log = sym (ap (λ (y : Past). y .log) (x .1)) ∙ ap (λ (s : Site). trace (noPast s) (record { site = s; area = area }) es .log) e;
     }
 
@@ -226,17 +226,17 @@ pub daily : Daily
 daily =
     record {
       ended-by-wants = λ s area D e ws long room ok n.
-          sym (ap (λ (w : World). w .site)
+          sym (ap (λ (w : RunState). w .site)
           (run-append (record { site = s; area = area }) (wantsOf ws e 32) (End ∷ [])
-          ∙ ap (λ (w : World). run w (End ∷ [])) (wants-all ws e D s area long room ok)) ∙ ended s area e ws room n);
+          ∙ ap (λ (w : RunState). run w (End ∷ [])) (wants-all ws e D s area long room ok)) ∙ ended s area e ws room n);
       plain = plain;
       demand3 = λ f t D ws h u area cs.
           let p = plain f t D ws h area cs in
           let d = holds .demand3 f (givenTable ws t) (p .loads) u area (eventsOfAll (beginBy f t D ws area) cs) in
           record {
             agreement = subst (λ (s : Site). s .negotiates ≡ true → Agreement s) (sym (p .site)) (d .agreement);
-            grounded = subst (λ (l : List Determination). (x : Determination) → List·Memᴰ x l → Grounded (f .nodes) x) (sym (p .log))
-                (d .grounded);
+            justified = subst (λ (l : List Determination). (x : Determination) → List·Memᴰ x l → Justified (f .nodes) x) (sym (p .log))
+                (d .justified);
             unique = subst (λ (l : List Determination). (x y : Determination) → List·Memᴰ x l → List·Memᴰ y l → x .epoch ≡ y .epoch
                 → SameDetermination x y) (sym (p .log)) (d .unique);
           };

@@ -9,7 +9,7 @@ use lib.ListN.{length}
 use Rattle.words.proofs.Tests.{hit, skip, read-same}
 use Rattle.node.specs.Answers.{isDone}
 use Rattle.site.specs.Answers.{areaSize, answerOf}
-use Rattle.site.specs.Run.{World, after, run}
+use Rattle.site.specs.Run.{RunState, after, run}
 use Rattle.site.specs.Model.{Site}
 use Rattle.site.specs.declared.Event.{Event}
 use Rattle.site.specs.declared.Event.the-variants.{Want}
@@ -22,48 +22,48 @@ use Rattle.machine.proofs.hours.Given.{was, partSite, want-area, want-site, sta
 use Rattle.agreement.specs.daily.Daily.{wantsOf}
 
 -- one list of events after another
-pub run-append : (w : World) (x y : List Event) → run w (x ++ y) ≡ run (run w x) y
+pub run-append : (w : RunState) (x y : List Event) → run w (x ++ y) ≡ run (run w x) y
 unfolding run
 run-append w [] y = refl
 run-append w (e ∷ x) y = run-append (after w e) x y
 
-pub trace-append : (past : Past) (w : World) (x y : List Event) → trace past w (x ++ y) ≡ trace (trace past w x) (run w x) y
+pub trace-append : (past : Past) (w : RunState) (x y : List Event) → trace past w (x ++ y) ≡ trace (trace past w x) (run w x) y
 unfolding run trace
 trace-append past w [] y = refl
 trace-append past w (e ∷ x) y = trace-append (pastAfter past w e) (after w e) x y
 
 -- a want adds nothing to the past
-no-past : (past : Past) (w : World) (j d : ℕ) → pastAfter past w (Want j d) ≡ past
+no-past : (past : Past) (w : RunState) (j d : ℕ) → pastAfter past w (Want j d) ≡ past
 unfolding pastAfter
 no-past past w j d = read-same (λ (x : Past). x) (isDone (answerOf (w .site) (w .area) (Want j d))) past past past refl refl
 
 module _ (ws : List Window) (e D : ℕ) (s : Site) (area : List ℕ) (long : length (s .members) ≡ 32) (room : areaSize ≤ length area)
     (ok : listOk (s .config .nodes) D ws ≡ true) where
   -- the site once the first n nodes have their demands, with the area
-  abbrev world : ℕ → World
-  world n = record { site = partSite ws e s n; area = area }
+  abbrev state : ℕ → RunState
+  state n = record { site = partSite ws e s n; area = area }
 
-  want-world : (n : ℕ) → n < 32 → hasWindows ws (n + 1) ≡ true → after (world n) (Want (n + 1) (demandAt ws (n + 1) e)) ≡ world (suc n)
-  want-world n l h = λ i. record {
+  want-state : (n : ℕ) → n < 32 → hasWindows ws (n + 1) ≡ true → after (state n) (Want (n + 1) (demandAt ws (n + 1) e)) ≡ state (suc n)
+  want-state n l h = λ i. record {
     site = want-site ws e s D area room ok n l h i;
     area = want-area (partSite ws e s n) area (n + 1)
         (demandAt ws (n + 1) e) i;
   }
 
   -- the wants of the first n nodes
-  wants-run : (n : ℕ) → n ≤ 32 → run (record { site = s; area = area }) (wantsOf ws e n) ≡ world n
+  wants-run : (n : ℕ) → n ≤ 32 → run (record { site = s; area = area }) (wantsOf ws e n) ≡ state n
   unfolding wantsOf run
   wants-run zero l = λ i. record { site = sym (start ws e s long) i; area = area }
   wants-run (suc n) l = go (hasWindows ws (n + 1)) refl (wants-run n (omega (arith, l)))
     where
-      go : (t : Bool) → hasWindows ws (n + 1) ≡ t → run (record { site = s; area = area }) (wantsOf ws e n) ≡ world n
+      go : (t : Bool) → hasWindows ws (n + 1) ≡ t → run (record { site = s; area = area }) (wantsOf ws e n) ≡ state n
           → run (record { site = s; area = area })
-          (wantsOf ws e n ++ cond (hasWindows ws (n + 1)) (Want (n + 1) (demandAt ws (n + 1) e) ∷ []) []) ≡ world (suc n)
+          (wantsOf ws e n ++ cond (hasWindows ws (n + 1)) (Want (n + 1) (demandAt ws (n + 1) e) ∷ []) []) ≡ state (suc n)
       go true h r =
           ap (λ (l : List Event). run (record { site = s; area = area }) (wantsOf ws e n ++ l)) (hit _ _ _ h)
           ∙ run-append (record { site = s; area = area }) (wantsOf ws e n) (Want (n + 1) (demandAt ws (n + 1) e) ∷ [])
-          ∙ ap (λ (w : World). after w (Want (n + 1) (demandAt ws (n + 1) e))) r
-          ∙ want-world n (omega (arith, l)) h
+          ∙ ap (λ (w : RunState). after w (Want (n + 1) (demandAt ws (n + 1) e))) r
+          ∙ want-state n (omega (arith, l)) h
       go false h r =
           ap (λ (l : List Event). run (record { site = s; area = area }) (wantsOf ws e n ++ l)) (skip _ _ _ _ h refl)
           ∙ ap (run (record { site = s; area = area })) (append-nil (wantsOf ws e n))
@@ -74,7 +74,7 @@ module _ (ws : List Window) (e D : ℕ) (s : Site) (area : List ℕ) (long : len
   wants-all = wants-run 32 (omega arith) ∙ (λ i. record { site = finish ws e s 32 (λ k h l. absurd (omega arith)) i; area = area })
 
 -- wants add nothing to the past
-pub wants-past : (past : Past) (w : World) (ws : List Window) (e n : ℕ) → trace past w (wantsOf ws e n) ≡ past
+pub wants-past : (past : Past) (w : RunState) (ws : List Window) (e n : ℕ) → trace past w (wantsOf ws e n) ≡ past
 unfolding wantsOf trace
 wants-past past w ws e zero = refl
 wants-past past w ws e (suc n) = trace-append past w (wantsOf ws e n) _

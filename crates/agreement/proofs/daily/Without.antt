@@ -18,7 +18,7 @@ use Rattle.site.specs.Members.{setupOf, downMember}
 use Rattle.site.specs.Answers.{answerOf}
 use Rattle.site.specs.Events.{isEnd}
 use Rattle.site.specs.Steps.{siteAfter, areaAfter}
-use Rattle.site.specs.Run.{World, after, run}
+use Rattle.site.specs.Run.{RunState, after, run}
 use Rattle.node.specs.declared.Config.{Config}
 use Rattle.site.specs.declared.Row.{Row}
 use Rattle.site.specs.declared.Table.{Table}
@@ -30,9 +30,9 @@ use Rattle.agreement.specs.Demand.{final}
 use Rattle.windows.specs.Windows.{listOk, hasWindows, dueAt}
 use Rattle.windows.specs.declared.Window.{Window}
 use Rattle.windows.proofs.Laws.{due-kept, none-has}
-use Rattle.machine.specs.hours.Hours.{Timed, epochAfter, nextEpoch, givenSite, givenRow, givenTable, loadedTimed, inLastRound, beginsEpoch}
+use Rattle.machine.specs.hours.Hours.{Timed, epochAfter, nextInDay, givenSite, givenRow, givenTable, loadedTimed, inLastRound, beginsEpoch}
 use Rattle.machine.specs.hours.Hours.{timedAnswer, givenBefore, nextTimed, timedAfter}
-use Rattle.machine.specs.hours.Calls.{Call, TimedWorld, afterCall, runCalls}
+use Rattle.machine.specs.hours.Calls.{Call, TimedState, afterCall, runCalls}
 use Rattle.machine.specs.declared.Day.{Day}
 use Rattle.machine.proofs.hours.Laws.{given-none, load-accepts, loaded-site, plain-after, end-is}
 use Rattle.agreement.specs.daily.Daily.{beginBy, finalBy}
@@ -52,7 +52,7 @@ unfolding timedAfter nextTimed
 same-length t area e h = go (isDone (timedAnswer t area [] e))
   where
     go : (b : Bool) → cond b (nextTimed t area [] e) t .day .length ≡ 1
-    go true = read-same (λ (d : Day). d .length) (beginsEpoch t e) (nextEpoch (t .day)) (t .day) 1 h h
+    go true = read-same (λ (d : Day). d .length) (beginsEpoch t e) (nextInDay (t .day)) (t .day) 1 h h
     go false = h
 
 -- an end lent no windows is the plain one
@@ -86,7 +86,7 @@ call-site t area e long h = go (isEnd e) refl
     go false k = ap (λ (x : Timed). x .site) (plain-after t area [] e k)
 
 -- each list of them
-calls-run : (es : List Event) (w : TimedWorld) → length (w .timed .site .members) ≡ 32 → w .timed .day .length ≡ 1
+calls-run : (es : List Event) (w : TimedState) → length (w .timed .site .members) ≡ 32 → w .timed .day .length ≡ 1
     → runCalls w (map callOf es) .timed .site ≡ run (record { site = w .timed .site; area = w .area }) es .site
 unfolding runCalls run
 calls-run [] w long h = refl

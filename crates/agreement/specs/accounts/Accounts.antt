@@ -15,7 +15,7 @@ use Rattle.node.specs.declared.Answer.the-variants.{Done}
 use Rattle.site.specs.Answers.{answerOf}
 use Rattle.site.specs.Load.{loadAnswer, loadedSite}
 use Rattle.site.specs.Events.{isEnd}
-use Rattle.site.specs.Run.{World, after, run}
+use Rattle.site.specs.Run.{RunState, after, run}
 use Rattle.node.specs.declared.Config.{Config}
 use Rattle.site.specs.declared.Table.{Table}
 use Rattle.site.specs.Model.{Site}
@@ -24,21 +24,21 @@ use Rattle.traces.specs.Past.{trace, noPast}
 use Rattle.traces.specs.Reached.{begin}
 use Rattle.agreement.specs.Demand.{Demand3}
 use Rattle.tally.specs.Claims.{heldBy, claimants, sum, claimed}
-use Rattle.tally.specs.Counting.{topEpochs, first, slotsAt, heldAt, tallyOk}
-use Rattle.tally.specs.Ends.{schedulesAt, talliedAnswer, talliedSite, talliedArea, tallyAfter}
+use Rattle.tally.specs.Counting.{topEpochs, firstTally, slotsAt, heldAt, tallyOk}
+use Rattle.tally.specs.Ends.{schedulesOf, talliedAnswer, talliedSite, talliedArea, tallyAfter}
 use Rattle.tally.specs.declared.Tally.{Tally}
 
 -- a site and its packet area, with the tally
 pub record Account : Type 0 where
-  pub world : World
+  pub state : RunState
   pub tally : Tally
 
 -- after one event
 abbrev pub afterTallied : Account → Event → Account
 afterTallied a e =
-    let w = a .world in
+    let w = a .state in
     record {
-      world = record {
+      state = record {
         site = talliedSite (w .site) (w .area) (a .tally) e;
         area = talliedArea (w .site) (w .area)
             (a .tally) e;
@@ -53,7 +53,7 @@ runTallied a (e ∷ es) = runTallied (afterTallied a e) es
 
 -- a list of events from a site just loaded
 abbrev pub account : Config → Table → List ℕ → List Event → Account
-account f t area es = runTallied (record { world = begin f t area; tally = first }) es
+account f t area es = runTallied (record { state = begin f t area; tally = firstTally }) es
 
 -- how many epochs have begun in it: that of the load, and one for each accepted end of an epoch's last round
 abbrev pub epochsBegun : Config → Table → List ℕ → List Event → ℕ
@@ -61,18 +61,18 @@ epochsBegun f t area es = trace (noPast (loadedSite f t)) (begin f t area) es .e
 
 -- of a site: the sum by slots is that by nodes
 abbrev pub SumsMeet : Site → Type 0
-SumsMeet s = claimed (schedulesAt s) ≡ sum 32 (heldBy (schedulesAt s))
+SumsMeet s = claimed (schedulesOf s) ≡ sum 32 (heldBy (schedulesOf s))
 
 -- no slot has two claimants
 abbrev pub ClaimedOnce : Site → Type 0
-ClaimedOnce s = (k : ℕ) → claimants (schedulesAt s) k ≤ 1
+ClaimedOnce s = (k : ℕ) → claimants (schedulesOf s) k ≤ 1
 
 -- the site with which an event begins an epoch, if it does: behind an accepted end of an epoch's last round
-unfoldable pub epochSite : World → Event → List Site
+unfoldable pub epochSite : RunState → Event → List Site
 epochSite w e = cond (isEnd e && (isDone (answerOf (w .site) (w .area) e) && isLast (w .site .config) (w .site .place)))
     (after w e .site ∷ []) []
 
-unfoldable pub epochSites : World → List Event → List Site
+unfoldable pub epochSites : RunState → List Event → List Site
 epochSites w [] = []
 epochSites w (e ∷ es) = epochSite w e ++ epochSites (after w e) es
 
@@ -86,7 +86,7 @@ sumOver g (s ∷ l) = g s + sumOver g l
 
 -- how many slots the node at index i holds by its own schedule at a site; and 1 if it holds one
 abbrev pub slotsHeld : ℕ → Site → ℕ
-slotsHeld i s = heldBy (schedulesAt s) i
+slotsHeld i s = heldBy (schedulesOf s) i
 
 abbrev pub holdsOne : ℕ → Site → ℕ
 holdsOne i s = digit (ltb 0 (slotsHeld i s))
@@ -94,7 +94,7 @@ holdsOne i s = digit (ltb 0 (slotsHeld i s))
 -- what is said of a list of events
 pub record Accounted (f : Config) (t : Table) (area : List ℕ) (es : List Event) : Type 0 where
   -- the tally changes nothing of site and area, and no event is ever refused for it
-  pub world : account f t area es .world ≡ run (begin f t area) es
+  pub state : account f t area es .state ≡ run (begin f t area) es
   pub answers : (e : Event) → talliedAnswer (run (begin f t area) es .site) (run (begin f t area) es .area) (account f t area es .tally) e
       ≡ answerOf (run (begin f t area) es .site) (run (begin f t area) es .area) e
   -- the tally is valid; it has counted every epoch that began, up to 100,000
@@ -114,14 +114,14 @@ pub record LentCall : Type 0 where
   pub event : Event
   pub tally : Tally
 
-abbrev pub afterLent : World → LentCall → World
+abbrev pub afterLent : RunState → LentCall → RunState
 afterLent w c = record {
   site = talliedSite (w .site) (w .area) (c .tally) (c .event);
   area = talliedArea (w .site) (w .area) (c .tally)
       (c .event);
 }
 
-unfoldable pub runLent : World → List LentCall → World
+unfoldable pub runLent : RunState → List LentCall → RunState
 runLent w [] = w
 runLent w (c ∷ cs) = runLent (afterLent w c) cs
 
@@ -136,13 +136,13 @@ heeded (c ∷ cs) = cond (isSpoilt c) [] (c .event ∷ []) ++ heeded cs
 
 -- a list of such calls: site and area are those of the list without the spoilt ends, so that demand 3 holds of them; and a spoilt tally
 -- stays as it is
-pub record Lent (f : Config) (t : Table) (area : List ℕ) (cs : List LentCall) : Type 0 where
-  pub world : runLent (begin f t area) cs ≡ run (begin f t area) (heeded cs)
+pub record LentRuns (f : Config) (t : Table) (area : List ℕ) (cs : List LentCall) : Type 0 where
+  pub state : runLent (begin f t area) cs ≡ run (begin f t area) (heeded cs)
   pub demand3 : f .split ≡ 0 → Demand3 f t area (heeded cs)
-  pub tally : (w : World) (c : LentCall) → isSpoilt c ≡ true → tallyAfter (w .site) (w .area) (c .tally) (c .event) ≡ c .tally
+  pub tally : (w : RunState) (c : LentCall) → isSpoilt c ≡ true → tallyAfter (w .site) (w .area) (c .tally) (c .event) ≡ c .tally
 
 -- the statement: proved in proofs/Theorem.antt
 pub record Accounts : Type 0 where
   pub meets : (s : Site) → SumsMeet s
   pub accounted : (f : Config) (t : Table) → loadAnswer f t ≡ Done → (area : List ℕ) (es : List Event) → Accounted f t area es
-  pub lent : (f : Config) (t : Table) → loadAnswer f t ≡ Done → (area : List ℕ) (cs : List LentCall) → Lent f t area cs
+  pub lent : (f : Config) (t : Table) → loadAnswer f t ≡ Done → (area : List ℕ) (cs : List LentCall) → LentRuns f t area cs

@@ -13,19 +13,19 @@ use Rattle.site.specs.Answers.{areaSize, answerOf}
 use Rattle.site.specs.Load.{loadAnswer, loadedSite}
 use Rattle.site.specs.Events.{isEnd}
 use Rattle.site.specs.Steps.{endedSite}
-use Rattle.site.specs.Run.{World, run}
+use Rattle.site.specs.Run.{RunState, run}
 use Rattle.node.specs.declared.Config.{Config}
 use Rattle.site.specs.declared.Table.{Table}
 use Rattle.site.specs.Model.{Site}
 use Rattle.site.specs.declared.Event.{Event}
 use Rattle.site.specs.declared.Event.the-variants.{End, Want}
 use Rattle.traces.specs.Past.{Determination, Past, noPast, recorded, trace}
-use Rattle.agreement.specs.Demand.{Agreement, Grounded, SameDetermination, final, determinations}
+use Rattle.agreement.specs.Demand.{Agreement, Justified, SameDetermination, final, determinations}
 use Rattle.windows.specs.Windows.{listOk, hasWindows, demandAt}
 use Rattle.windows.specs.declared.Window.{Window}
 use Rattle.machine.specs.hours.Hours.{epochAfter, givenSite, givenTable, timedLoadAnswer, loadedTimed, inLastRound, beginsEpoch}
 use Rattle.machine.specs.hours.Hours.{timedAnswer}
-use Rattle.machine.specs.hours.Calls.{Call, TimedWorld, afterCall, runCalls}
+use Rattle.machine.specs.hours.Calls.{Call, TimedState, afterCall, runCalls}
 
 -- the wants of an epoch: one for each of the first n nodes that has windows
 unfoldable pub wantsOf : List Window → ℕ → ℕ → List Event
@@ -34,7 +34,7 @@ wantsOf ws e (suc n) = wantsOf ws e n ++ cond (hasWindows ws (n + 1)) (Want (n +
 
 -- the events that a call stands for: an accepted end that begins an epoch, its wants and then the end; an end refused as 16, none; any
 -- other, its own
-unfoldable pub eventsOf : TimedWorld → Call → List Event
+unfoldable pub eventsOf : TimedState → Call → List Event
 eventsOf w c =
     cond (isEnd (c .event) && isDone (answerOf (w .timed .site) (w .area) (c .event)))
     (cond (listOk (w .timed .site .config .nodes) (w .timed .day .length) (c .windows))
@@ -42,25 +42,25 @@ eventsOf w c =
     [])
     (c .event ∷ [])
 
-unfoldable pub eventsOfAll : TimedWorld → List Call → List Event
+unfoldable pub eventsOfAll : TimedState → List Call → List Event
 eventsOfAll w [] = []
 eventsOfAll w (c ∷ cs) = eventsOf w c ++ eventsOfAll (afterCall w c) cs
 
 -- a list of calls from a site just loaded with windows
-abbrev pub beginBy : Config → Table → ℕ → List Window → List ℕ → TimedWorld
+abbrev pub beginBy : Config → Table → ℕ → List Window → List ℕ → TimedState
 beginBy f t D ws area = record { timed = loadedTimed f t D ws; area = area }
 
 abbrev pub finalBy : Config → Table → ℕ → List Window → List ℕ → List Call → Site
 finalBy f t D ws area cs = runCalls (beginBy f t D ws area) cs .timed .site
 
 -- what an accepted call adds to the past; a refused one adds nothing
-unfoldable pub pastAfterCall : Past → TimedWorld → Call → Past
+unfoldable pub pastAfterCall : Past → TimedState → Call → Past
 pastAfterCall past w c =
     cond (isDone (timedAnswer (w .timed) (w .area) (c .windows) (c .event)))
     (recorded past (w .timed .site) (c .event) (afterCall w c .timed .site)) past
 
 -- the past of a list of calls
-unfoldable pub traceCalls : Past → TimedWorld → List Call → Past
+unfoldable pub traceCalls : Past → TimedState → List Call → Past
 traceCalls past w [] = past
 traceCalls past w (c ∷ cs) = traceCalls (pastAfterCall past w c) (afterCall w c) cs
 
@@ -70,7 +70,7 @@ determinationsBy f t D ws area cs = traceCalls (noPast (loadedTimed f t D ws .si
 -- demand 3 of a list of calls
 pub record DailyDemand3 (f : Config) (t : Table) (D : ℕ) (ws : List Window) (area : List ℕ) (cs : List Call) : Type 0 where
   pub agreement : finalBy f t D ws area cs .negotiates ≡ true → Agreement (finalBy f t D ws area cs)
-  pub grounded : (d : Determination) → List·Memᴰ d (determinationsBy f t D ws area cs) → Grounded (f .nodes) d
+  pub justified : (d : Determination) → List·Memᴰ d (determinationsBy f t D ws area cs) → Justified (f .nodes) d
   pub unique : (d e : Determination) → List·Memᴰ d (determinationsBy f t D ws area cs) → List·Memᴰ e (determinationsBy f t D ws area cs)
       → d .epoch ≡ e .epoch → SameDetermination d e
 

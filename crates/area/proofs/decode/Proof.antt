@@ -103,9 +103,9 @@ returns c =
             (c .before .before .before .before .word11 .ensures) i;
         heard = (c .before .before .before .word12 .ensures) i;
       };
-      counts = (c .before .before .before .before .before .before .before .before .before .before .before .before .before .before .before
+      counters = (c .before .before .before .before .before .before .before .before .before .before .before .before .before .before .before
           .before .before .before .before .list-at2 .ensures) i;
-      met = (c .before .before .word13 .ensures) i;
+      interactions = (c .before .before .word13 .ensures) i;
       place = (c .before .word14 .ensures) i;
       updated = eqb ((c .byte4 .ensures) i) 1;
     }

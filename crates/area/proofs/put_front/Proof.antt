@@ -10,7 +10,7 @@ use Rattle.area.proofs.put_front.Statement.{statement}
 use Rattle.area.proofs.put_front.Tie as tie
 
 long : (c : tie.Start) → Lengths (bare (c .args .c))
-long c = record { schedule = ap length owners-free; known = search needs; counts = search needs; determined = ap length owners-free }
+long c = record { schedule = ap length owners-free; known = search needs; counters = search needs; determined = ap length owners-free }
 
 small-bytes-requires : tie.Need-small-bytes-requires
 small-bytes-requires c κs = search needs
@@ -41,7 +41,7 @@ cast-put-bytes-2 c = search needs
 slice-aggregate-put-bytes-3 : tie.Need-slice-aggregate-put-bytes-3
 slice-aggregate-put-bytes-3 c =
     sym (long (c .before .before .before .before .before .before .before .before .before .before .before .before .before .before .before
-    .before .before .before .before .before .before .before) .counts)
+    .before .before .before .before .before .before .before) .counters)
 
 put-bytes-requires-3 : tie.Need-put-bytes-requires-3
 put-bytes-requires-3 c κs = search needs

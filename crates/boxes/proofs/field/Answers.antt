@@ -22,7 +22,7 @@ use Rattle.wire.specs.Reads.{packetAnswer}
 use Rattle.host.specs.Calls.{andThen, restarting, sendingOf, hearingOf, takingOf, wantingOf}
 use Rattle.host.proofs.Nodes as host
 use Rattle.site.specs.Counts.{topSent, sentOf, packets}
-use Rattle.site.specs.Members.{setupOf, channelOf, memberAt, outside, isLive}
+use Rattle.site.specs.Members.{setupOf, headerOf, memberAt, outside, isLive}
 use Rattle.site.specs.Parts.{packetPart}
 use Rattle.site.specs.Answers.{areaSize, answerPart, siteSend, siteHear, siteClose, siteTake, siteEnd, siteWant, siteCrash, siteRestart}
 use Rattle.site.specs.Answers.{eventAnswer, answerOf}
@@ -78,7 +78,7 @@ module _ {s : Site} {area : List ℕ} {sent : List Packet} {air : List (List ℕ
       (λ l t v.
       let m = memberAt s j in
       let u = live-up m v in
-      let q = packetPart (channelOf s) area p in
+      let q = packetPart (headerOf s) area p in
       ap (λ (k : ℕ). cond (not (leb 1 p && leb p k)) NoSuchPacket (hearingOf (boxes j .area) (packet x p))) (B .count)
       ∙ past-test _ _ _ _
       (λ h.

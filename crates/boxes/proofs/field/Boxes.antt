@@ -41,7 +41,7 @@ use Rattle.area.proofs.Canon.{length-encoded}
 use Rattle.host.proofs.Nodes as host
 use Rattle.site.specs.Members.{isLive, withNode}
 use Rattle.site.specs.Model.{Member}
-use Rattle.boxes.specs.field.Field.{Box, zeros, reading, phaseIn, live, sends, boxHolding}
+use Rattle.boxes.specs.field.Field.{Box, zeros, reading, boxPhase, live, sends, boxHolding}
 
 -- up or down as the member; an area of its length, with the bytes of the member's node while it is up; and an output of its length, with
 -- what the node sends while it sends
@@ -85,8 +85,8 @@ module _ {m : Member} {b : Box} (M : Match m b) (F : Fit m) where
     reading-is = ap (λ (a : List ℕ). outRead a (zeros reportSize)) (M .area u)
         ∙ host.read-writes (m .node) (F .long u) (F .range u) (zeros reportSize) (length-replicate {A = ℕ} reportSize 0)
 
-    phase-is : phaseIn (reading b) ≡ phaseByte (m .node .phase)
-    phase-is = ap phaseIn reading-is ∙ host.phase-in (m .node) (F .long u)
+    phase-is : boxPhase (reading b) ≡ phaseByte (m .node .phase)
+    phase-is = ap boxPhase reading-is ∙ host.phase-in (m .node) (F .long u)
 
     pub sends-is : sends b ≡ sending (m .node .phase)
     unfolding sends
@@ -96,9 +96,9 @@ module _ {m : Member} {b : Box} (M : Match m b) (F : Fit m) where
   unfolding live
   live-is = go (m .up) refl
     where
-      go : (t : Bool) → m .up ≡ t → (b .up && not (eqb (phaseIn (reading b)) 3)) ≡ isLive m
+      go : (t : Bool) → m .up ≡ t → (b .up && not (eqb (boxPhase (reading b)) 3)) ≡ isLive m
       go true u = both (M .up) (ap (λ (x : ℕ). not (eqb x 3)) (phase-is u) ∙ waits (m .node .phase))
-      go false u = ap (λ (t : Bool). t && not (eqb (phaseIn (reading b)) 3)) (M .up ∙ u)
+      go false u = ap (λ (t : Bool). t && not (eqb (boxPhase (reading b)) 3)) (M .up ∙ u)
           ∙ sym (ap (λ (t : Bool). t && not (isWaiting (m .node .phase))) u)
 
 -- What the calls make of a box

@@ -22,7 +22,7 @@ use Rattle.area.specs.Area.{decoded}
 use Rattle.area.proofs.Canon.{round-trip}
 use Rattle.site.specs.Members.{nobody, memberAt, isLive}
 use Rattle.site.specs.Answers.{answerOf}
-use Rattle.site.specs.Run.{World, after}
+use Rattle.site.specs.Run.{RunState, after}
 use Rattle.node.specs.declared.Config.{Config}
 use Rattle.site.specs.Model.{Member}
 use Rattle.site.specs.Model.{Site}
@@ -30,12 +30,12 @@ use Rattle.site.specs.declared.Event.{Event}
 use Rattle.site.specs.declared.Event.the-variants.{Send, Hear, Close, Take, End, Want, Crash, Restart}
 use Rattle.node.proofs.Bounds.{bounds}
 use Rattle.traces.specs.Past.{Determination, Past, determination, determinedByMember, determinedAt, recorded, pastAfter, trace, noPast}
-use Rattle.agreement.specs.Demand.{Grounded, SameDetermination}
+use Rattle.agreement.specs.Demand.{Justified, SameDetermination}
 use Rattle.traces.proofs.Members.{live-up}
 use Rattle.traces.proofs.Always.{Kept}
 use Rattle.boxes.specs.field.Field.{Box, Field, Act, reading, versionIn, requestIn, live, fieldAfter}
 use Rattle.boxes.specs.field.Past.{BoxDetermination, BoxPast, boxDetermination, boxesDetermined, boxNoted, boxPastAfter, boxTrace}
-use Rattle.boxes.specs.field.Claim.{BoxGrounded, SameBoxDetermination, BoxesGrounded, events}
+use Rattle.boxes.specs.field.Claim.{BoxJustified, SameBoxDetermination, BoxesJustified, events}
 use Rattle.boxes.proofs.field.Together.{Beside, at, fit}
 use Rattle.boxes.proofs.field.Reach.{Reached, answered-alike, reach}
 use Rattle.boxes.proofs.field.Results.{is-live, version-of, request-of, live-as}
@@ -161,14 +161,14 @@ module _ {f : Config} {past : Past} {s : Site} {area : List ℕ} {air : List (Li
           }
 
 -- the boxes of a field, seen
-seen-in : {f : Config} {past : Past} {w : World} {x : Field} → Reached f past w x → (j : ℕ) → 1 ≤ j
+seen-in : {f : Config} {past : Past} {w : RunState} {x : Field} → Reached f past w x → (j : ℕ) → 1 ≤ j
     → Seen (memberAt (w .site) j) (x .boxes j)
 seen-in {f} {past} {w} {x} r j l = subst (λ (z : Field). Seen (memberAt (w .site) j) (z .boxes j)) (sym (r .together .is))
     (seen (r .kept) (r .together .beside) j l)
 
 -- each event
 
-accepted : {f : Config} {past : Past} {w : World} {x : Field} {y : BoxPast} (a : Act) → Reached f past w x → Parallel past y
+accepted : {f : Config} {past : Past} {w : RunState} {x : Field} {y : BoxPast} (a : Act) → Reached f past w x → Parallel past y
     → Reached f (pastAfter past w (a .event)) (after w (a .event)) (fieldAfter x a)
     → Parallel (recorded past (w .site) (a .event) (after w (a .event) .site)) (boxNoted y x (a .event) (fieldAfter x a))
 accepted {f} {past} {w} {x} {y} a r P z = go (a .event) (seen-in z)
@@ -199,7 +199,7 @@ accepted {f} {past} {w} {x} {y} a r P z = go (a .event) (seen-in z)
     go (Crash j) c = P
     go (Restart j flags) c = P
 
-parallel-step : {f : Config} {past : Past} {w : World} {x : Field} {y : BoxPast} (a : Act) → Reached f past w x → Parallel past y
+parallel-step : {f : Config} {past : Past} {w : RunState} {x : Field} {y : BoxPast} (a : Act) → Reached f past w x → Parallel past y
     → Parallel (pastAfter past w (a .event)) (boxPastAfter y x a)
 unfolding pastAfter boxPastAfter
 parallel-step {f} {past} {w} {x} {y} a r P =
@@ -213,7 +213,7 @@ parallel-step {f} {past} {w} {x} {y} a r P =
     go true z = accepted a r P z
     go false z = P
 
-pub parallels : {f : Config} {past : Past} (w : World) (x : Field) (y : BoxPast) (acts : List Act) → Reached f past w x → Parallel past y
+pub parallels : {f : Config} {past : Past} (w : RunState) (x : Field) (y : BoxPast) (acts : List Act) → Reached f past w x → Parallel past y
     → Parallel (trace past w (events acts)) (boxTrace y x acts)
 unfolding trace boxTrace
 parallels w x y [] r P = P
@@ -227,16 +227,16 @@ pub begun-parallel : {f : Config} {s : Site} {area : List ℕ} {x : Field} → R
 begun-parallel r = record { epoch = refl; start = seen-in r; log = λ d m. absurd (List·Memᴰ·not-nil m) }
 
 -- what holds of what the nodes determined holds of what the boxes determined
-pub grounded : {past : Past} {y : BoxPast} (N : ℕ) → Parallel past y → ((d : Determination) → List·Memᴰ d (past .log) → Grounded N d)
+pub justified : {past : Past} {y : BoxPast} (N : ℕ) → Parallel past y → ((d : Determination) → List·Memᴰ d (past .log) → Justified N d)
     → ((d e : Determination) → List·Memᴰ d (past .log) → List·Memᴰ e (past .log) → d .epoch ≡ e .epoch → SameDetermination d e)
-    → BoxesGrounded N (y .log)
-grounded {past} {y} N P G U =
+    → BoxesJustified N (y .log)
+justified {past} {y} N P G U =
     record {
-      grounded = λ d m. one d (P .log d m);
+      justified = λ d m. one d (P .log d m);
       unique = λ d e m n h. two d e (P .log d m) (P .log e n) h;
     }
   where
-    one : (d : BoxDetermination) → Witness (past .log) d → BoxGrounded N d
+    one : (d : BoxDetermination) → Witness (past .log) d → BoxJustified N d
     one d w =
         let g = G (w .e) (w .there) in
         record {

@@ -7,7 +7,7 @@ use lib.ListN.{length}
 use Rattle.node.specs.declared.Answer.{Answer}
 use Rattle.site.specs.Load.{loadedSite}
 use Rattle.site.specs.Answers.{areaSize, answerOf}
-use Rattle.site.specs.Run.{World, after, run}
+use Rattle.site.specs.Run.{RunState, after, run}
 use Rattle.node.specs.declared.Config.{Config}
 use Rattle.site.specs.declared.Table.{Table}
 use Rattle.site.specs.declared.Event.{Event}
@@ -22,13 +22,13 @@ use Rattle.boxes.proofs.field.Steps.{event-together}
 use Rattle.boxes.proofs.field.Begins.{loads, begun-together}
 
 -- a site with its past, and the field beside it
-pub record Reached (f : Config) (past : Past) (w : World) (x : Field) : Type 1 where
+pub record Reached (f : Config) (past : Past) (w : RunState) (x : Field) : Type 1 where
   pub kept : Kept f past (w .site) (w .area)
   pub together : Together (w .site) (w .area) x
 
 -- Lists of events
 
-module _ {f : Config} {past : Past} {w : World} {x : Field} (r : Reached f past w x) where
+module _ {f : Config} {past : Past} {w : RunState} {x : Field} (r : Reached f past w x) where
   pub answered-alike : (e : Event) → fieldAnswer x e ≡ answerOf (w .site) (w .area) e
   answered-alike e = ap (λ (y : Field). fieldAnswer y e) (r .together .is) ∙ same-answer (r .kept .sound) (r .together .beside) e
 
@@ -40,13 +40,13 @@ module _ {f : Config} {past : Past} {w : World} {x : Field} (r : Reached f past 
             (sym (r .together .is)) (event-together (r .kept .sound) (r .together .beside) a);
       }
 
-pub reaches : {f : Config} {past : Past} (w : World) (x : Field) (acts : List Act) → Reached f past w x
+pub reaches : {f : Config} {past : Past} (w : RunState) (x : Field) (acts : List Act) → Reached f past w x
     → Reached f (trace past w (events acts)) (run w (events acts)) (fieldRun x acts)
 unfolding run trace fieldRun
 reaches w x [] r = r
 reaches w x (a ∷ acts) r = reaches (after w (a .event)) (fieldAfter x a) acts (reach r a)
 
-pub same-answers : {f : Config} {past : Past} (w : World) (x : Field) (acts : List Act) → Reached f past w x
+pub same-answers : {f : Config} {past : Past} (w : RunState) (x : Field) (acts : List Act) → Reached f past w x
     → fieldAnswers x acts ≡ siteAnswers w (events acts)
 unfolding fieldAnswers siteAnswers
 same-answers w x [] r = refl

@@ -48,7 +48,7 @@ use Rattle.traces.proofs.Members.{live-up, awake}
 use Rattle.traces.proofs.Steady.{Steady, rests}
 use Rattle.traces.proofs.Once.{kept-layout, heard-once}
 use Rattle.traces.proofs.Always.{Kept}
-use Rattle.boxes.specs.field.Field.{Box, zeros, reading, versionIn, slotIn, requestIn, phaseIn, senderIn, live, sends}
+use Rattle.boxes.specs.field.Field.{Box, zeros, reading, versionIn, slotIn, requestIn, boxPhase, senderIn, live, sends}
 use Rattle.boxes.specs.field.Claim.{ReportsAgree, Agreeing, SlotsAsRead, Working, Plain, Shows}
 use Rattle.boxes.proofs.field.Boxes.{reading-is, sends-is, live-is, close-done}
 use Rattle.boxes.proofs.field.Together.{fieldOf, Beside, at, fit, steady, talks, taken-bytes}
@@ -123,9 +123,9 @@ module _ {f : Config} {past : Past} {s : Site} {area : List ℕ} {air : List (Li
     pub slot-of : (v : live (boxes j) ≡ true) (k : ℕ) → slotIn (reading (boxes j)) k ≡ owner (memberAt s j .node) k
     slot-of v k = ap (λ (r : List ℕ). slotIn r k) (reads v) ∙ slot-is (memberAt s j .node) (long v) k
 
-    phase-of : (v : live (boxes j) ≡ true) → eqb (phaseIn (reading (boxes j))) 0 ≡ s .negotiates
+    phase-of : (v : live (boxes j) ≡ true) → eqb (boxPhase (reading (boxes j))) 0 ≡ s .negotiates
     phase-of v =
-        ap (λ (r : List ℕ). eqb (phaseIn r) 0) (reads v) ∙ ap (λ (y : ℕ). eqb y 0) (host.phase-in (memberAt s j .node) (long v))
+        ap (λ (r : List ℕ). eqb (boxPhase r) 0) (reads v) ∙ ap (λ (y : ℕ). eqb y 0) (host.phase-in (memberAt s j .node) (long v))
         ∙ talks-byte (memberAt s j .node .phase)
         ∙ steady (h .sound) B j (up-live v) .phase (awake (memberAt s j) (is-live v))
 
@@ -201,7 +201,7 @@ module _ {f : Config} {past : Past} {s : Site} {area : List ℕ} {air : List (Li
     only-of : boxes j .up ≡ true → slotsAnswer (boxes j .area) (zeros slotsSize) ≡ Done → (live (boxes j) ≡ true) × (s .negotiates ≡ true)
     unfolding live
     only-of u d =
-        let p : phaseIn (reading (boxes j)) ≡ 0 = slots-told .phase (boxes j .area) (zeros slotsSize) (zeros reportSize) d (read-of u) in
+        let p : boxPhase (reading (boxes j)) ≡ 0 = slots-told .phase (boxes j .area) (zeros slotsSize) (zeros reportSize) d (read-of u) in
         let v : live (boxes j) ≡ true = ap₂ (λ (t : Bool) (y : ℕ). t && not (eqb y 3)) u p in
         (v, sym (phase-of v) ∙ ap (λ (y : ℕ). eqb y 0) p)
 
@@ -221,7 +221,7 @@ module _ {f : Config} {past : Past} {s : Site} {area : List ℕ} {air : List (Li
   -- and the boxes agree
   pub agreeing : (s .negotiates ≡ true → Agreement s) → Agreeing (fieldOf s air boxes)
   agreeing agree =
-      let lone = single agree in
+      let oneSite = single agree in
       record {
         agreement = λ t i j a b v w p q.
             let both = agree t i j (is-live i a v) (is-live j b w) (subst (λ (y : ℕ). 0 < y) (version-of i a v) p)
@@ -229,12 +229,12 @@ module _ {f : Config} {past : Past} {s : Site} {area : List ℕ} {air : List (Li
             subst (λ (y : List ℕ). ReportsAgree y (reading (boxes j))) (sym (reads i a v))
             (subst (λ (y : List ℕ). ReportsAgree (report (memberAt s i .node)) y) (sym (reads j b w))
             (alike (memberAt s i .node) (memberAt s j .node) (long i a v) (range i a v) (long j b w) (range j b w) both));
-        alone = lone;
+        alone = oneSite;
         masks = λ t i j a b v w ne.
             let p = slots-of i a v t in
             let q = slots-of j b w t in
             let z = words-apart (boxes i .area) (boxes j .area) (zeros slotsSize) (zeros slotsSize) (p .answer) (q .answer)
-            (λ k x y. ne (lone t i j a b v w k (eqb-true _ i (sym (p .slots k) ∙ x)) (eqb-true _ j (sym (q .slots k) ∙ y)))) in
+            (λ k x y. ne (oneSite t i j a b v w k (eqb-true _ i (sym (p .slots k) ∙ x)) (eqb-true _ j (sym (q .slots k) ∙ y)))) in
             record { low = z .0; high = z .1 };
       }
 

@@ -34,7 +34,7 @@ use Rattle.host.specs.Calls.{andThen, outSend, hearingOf, afterHear, groundSize
 use Rattle.host.specs.Calls.{wantingOf, afterWant, afterRestart}
 use Rattle.host.proofs.Nodes as host
 use Rattle.site.specs.Counts.{topSent, sentOf, packets}
-use Rattle.site.specs.Members.{nobody, setupOf, channelOf, memberAt, outside, isLive, withNode, put}
+use Rattle.site.specs.Members.{nobody, setupOf, headerOf, memberAt, outside, isLive, withNode, put}
 use Rattle.site.specs.Parts.{packetPart}
 use Rattle.site.specs.Answers.{siteWant, siteCrash, siteRestart, answerOf}
 use Rattle.site.specs.Steps.{sentSite, sentArea, heardSite, closeMember, closedSite, takenSite, endMember, endedSite, wantedSite}
@@ -91,12 +91,12 @@ module _ {s : Site} {area : List ℕ} {sent : List Packet} {air : List (List ℕ
 
   -- the calls of accepted events are done
 
-  heard-done : (j p : ℕ) → Hears s area j p → hearingOf (boxes j .area) (packetPart (channelOf s) area p) ≡ Done
+  heard-done : (j p : ℕ) → Hears s area j p → hearingOf (boxes j .area) (packetPart (headerOf s) area p) ≡ Done
   heard-done j p h =
       let a = h .acts in
       let m = memberAt s j in
       let u = live-up m (a .live) in
-      let q = packetPart (channelOf s) area p in
+      let q = packetPart (headerOf s) area p in
       let e = sound.hear-is j p S h in
       let k = sound.part-accepted (bounds (s .config) (S .config) .nodes-to) (S .parts (p - 1) (e .0)) in
       ap (λ (y : List ℕ). hearingOf y q) (at S B j (inside s j (a .node) .0) .area u)
@@ -164,7 +164,7 @@ module _ {s : Site} {area : List ℕ} {sent : List Packet} {air : List (List ℕ
         members = B .members;
         lent = let h = B .lent in let k = wire.length-placed area (packets (s .sent)) q long room in omega arith;
         count = length-append air (packetNow ∷ []) ∙ ap (λ (k : ℕ). k + 1) (B .count)
-            ∙ sym (packets-more (s .sent) j (omega (arith, S .counts .long, below-32 s j S a)));
+            ∙ sym (packets-more (s .sent) j (omega (arith, S .counters .long, below-32 s j S a)));
         parts = λ p k. ⊎-elim (λ e. newest p e) (λ h. older p h) (eq-or-lt-of-le (le-of-suc-le-suc (up p k)));
         each = B .each;
       })
@@ -204,15 +204,15 @@ module _ {s : Site} {area : List ℕ} {sent : List Packet} {air : List (List ℕ
       older p h = List·getD-append air (packetNow ∷ []) [] p h ∙ B .parts p h
           ∙ sym (wire.other-part area (packets (s .sent)) q long room p (λ e. omega (arith, B .count)))
 
-  hear-beside : (j p : ℕ) → Hears s area j p → hearingOf (boxes j .area) (packetPart (channelOf s) area p) ≡ Done
+  hear-beside : (j p : ℕ) → Hears s area j p → hearingOf (boxes j .area) (packetPart (headerOf s) area p) ≡ Done
       → Beside (heardSite s area j p) area air (change x j (boxHolding (boxes j)
-      (afterHear (boxes j .area) (packetPart (channelOf s) area p))) .boxes)
+      (afterHear (boxes j .area) (packetPart (headerOf s) area p))) .boxes)
   unfolding heardSite
   hear-beside j p h d =
       let a = h .acts in
       let m = memberAt s j in
       put-beside j _ _ (a .node) (hear-box (at S B j (inside s j (a .node) .0)) (fit S B j) (live-up m (a .live))
-      (packetPart (channelOf s) area p) (talks S B j (a .live) (a .phase)) d)
+      (packetPart (headerOf s) area p) (talks S B j (a .live) (a .phase)) d)
 
   -- the packets lapse, and each live box closes
   close-beside : s .negotiates ≡ true → Beside (closedSite s) area [] (λ k. closeBox (boxes k))
@@ -294,7 +294,7 @@ module _ {s : Site} {area : List ℕ} {sent : List Packet} {air : List (List ℕ
       let l = inside s j (h .acts .node) .0 in
       let m = memberAt s j in
       let u = live-up m (h .acts .live) in
-      let q = packetPart (channelOf s) area p in
+      let q = packetPart (headerOf s) area p in
       let k : hearingOf (boxes j .area) q ≡ Done = heard-done j p h in
       record {
         air = air;

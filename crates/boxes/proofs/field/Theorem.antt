@@ -19,7 +19,7 @@ use Rattle.boxes.specs.field.Claim.{Begins, Agreeing, Working, Plain, Sh
 use Rattle.boxes.proofs.field.Begins.{loads}
 use Rattle.boxes.proofs.field.Reach.{begun, reaches, same-answers}
 use Rattle.boxes.proofs.field.Results.{agreeing, working, plain, shows}
-use Rattle.boxes.proofs.field.Past.{begun-parallel, parallels, grounded}
+use Rattle.boxes.proofs.field.Past.{begun-parallel, parallels, justified}
 
 -- an area for the site that stands beside the boxes
 lent : areaSize ≤ length (zeros areaSize)
@@ -55,7 +55,7 @@ field-holds =
           (events acts) in
           record {
             agreeing = λ u. subst Agreeing (sym (r .together .is)) (agreeing (r .kept) (r .together .beside) (d u .agreement));
-            grounded = λ u. grounded (f .nodes) (parallels w x (noBoxPast x) acts r0 (begun-parallel r0)) (d u .grounded) (d u .unique);
+            justified = λ u. justified (f .nodes) (parallels w x (noBoxPast x) acts r0 (begun-parallel r0)) (d u .justified) (d u .unique);
             working = subst Working (sym (r .together .is)) (working (r .kept) (r .together .beside));
             plain = subst Plain (sym (r .together .is)) (plain (r .kept) (r .together .beside));
             replayed = replayed f t left b acts;

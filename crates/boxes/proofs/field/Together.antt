@@ -19,7 +19,7 @@ use Rattle.wire.specs.Reads.{scheduleAnswer, partOf}
 use Rattle.host.specs.Calls.{restarting}
 use Rattle.host.proofs.Nodes as host
 use Rattle.site.specs.Counts.{packets}
-use Rattle.site.specs.Members.{nobody, setupOf, channelOf, memberAt, outside, isLive}
+use Rattle.site.specs.Members.{nobody, setupOf, headerOf, memberAt, outside, isLive}
 use Rattle.site.specs.Parts.{packetPart}
 use Rattle.site.specs.Answers.{areaSize}
 use Rattle.site.specs.Model.{Site}
@@ -81,7 +81,7 @@ module _ {s : Site} {area : List ℕ} {sent : List Packet} {air : List (List ℕ
   talks j l t = steady j (live-up (memberAt s j) l) .phase (awake (memberAt s j) l) ∙ t
 
   -- the packet of a number lies in its part
-  pub packet-is : (p : ℕ) → 1 ≤ p → p ≤ packets (s .sent) → packet x p ≡ packetPart (channelOf s) area p
+  pub packet-is : (p : ℕ) → 1 ≤ p → p ≤ packets (s .sent) → packet x p ≡ packetPart (headerOf s) area p
   packet-is p a b = B .parts (p - 1) (omega (arith, B .count))
 
   -- what a sender sent is accepted by a taker

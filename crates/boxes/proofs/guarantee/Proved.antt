@@ -7,12 +7,12 @@ use Rattle.desk.specs.listing.Rows.{firstHead, rowsText}
 use Rattle.script.proofs.load.Outcome.{opening-loads}
 use Rattle.site.specs.Model.{Site}
 use Rattle.text.specs.Read.{split}
-use Rattle.desk.proofs.listings.Listed.{Told, told}
+use Rattle.desk.proofs.listings.Listed.{ListedSo, told}
 use Rattle.agreement.proofs.Theorem.{holds}
 use Rattle.consensus.proofs.Theorem.{consensus}
 use Rattle.agreement.proofs.daily.Theorem.{daily}
 use Rattle.agreement.proofs.daily.Without.{none-ok, without}
-use Rattle.desk.specs.listings.Output.{secondHead, eventsIn, callsOf, reports, loadedWorld}
+use Rattle.desk.specs.listings.Output.{secondHead, eventsIn, callsOf, refusedLines, loadedState}
 use Rattle.boxes.specs.guarantee.Guarantee.{Guaranteed, Plainly, Guarantee}
 
 pub guarantee : Guarantee
@@ -29,7 +29,7 @@ guarantee =
           let l = opening-loads (split 10 script) o ls e in
           record {
             printed = t .printed ∙ ap (λ (s : Site). firstHead (o .config .split)
-                ++ (reports [] (loadedWorld 1 [] o area) (5 + o .config .nodes) ls
+                ++ (refusedLines [] (loadedState 1 [] o area) (5 + o .config .nodes) ls
                 ++ (secondHead ++ rowsText (o .config .nodes) 0 (s .members) (o .config .slots))))
                 (without (o .config) (o .table) l area (eventsIn ls));
             demand3 = λ u. holds .demand3 (o .config) (o .table) l u area (eventsIn ls);

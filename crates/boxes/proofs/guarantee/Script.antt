@@ -31,11 +31,11 @@ use Rattle.script.specs.lines.Lines.{onLine}
 use Rattle.script.specs.lines.Fields.{twoOf, threeOf, fourOf, fiveOf}
 use Rattle.script.specs.load.Opening.{got, opening, namesLine, settingsLine, tableLines}
 use Rattle.script.specs.events.Events.{numberFrom, fieldsOf}
-use Rattle.desk.specs.listing.Rows.{firstHead, reportOf, moreOwners, ownersText, rowText, rowsText}
+use Rattle.desk.specs.listing.Rows.{firstHead, refusalLine, moreOwners, ownersText, rowText, rowsText}
 use Rattle.windows.specs.Windows.{listOk, hasWindows, demandAt, dueAt}
 use Rattle.machine.specs.hours.Hours.{givenSite, givenTable, timedLoadAnswer, loadedTimed, timedAnswer, nextTimed, timedAfter}
 use Rattle.agreement.specs.Demand.{final}
-use Rattle.desk.specs.listings.Output.{secondHead, eventsIn, reports, loadedWorld, unfit}
+use Rattle.desk.specs.listings.Output.{secondHead, eventsIn, refusedLines, loadedState, unfit}
 use Rattle.boxes.specs.guarantee.Script.{caseScript, caseListing, zeros, caseOpening, caseLines, RealScript}
 use Rattle.boxes.proofs.guarantee.Proved.{guarantee}
 
@@ -51,11 +51,12 @@ events-so : eventsIn caseLines ≡ Send 2 ∷ Send 3 ∷ Hear 1 1 ∷ Hear 1 2 �
 unfolding eventsIn fieldsOf numberFrom split front same numberOf digitsFrom twoOf
 events-so = refl
 
-printed-so : firstHead (caseOpening .config .split) ++ (reports [] (loadedWorld 1 [] caseOpening zeros) (5 + caseOpening .config .nodes)
+printed-so : firstHead (caseOpening .config .split)
+    ++ (refusedLines [] (loadedState 1 [] caseOpening zeros) (5 + caseOpening .config .nodes)
     caseLines
     ++ (secondHead ++ rowsText (caseOpening .config .nodes) 0 (final (caseOpening .config) (caseOpening .table) zeros
     (eventsIn caseLines) .members) (caseOpening .config .slots))) ≡ caseListing
-unfolding reports reportOf digitsOf eventsIn fieldsOf numberFrom split front numberOf digitsFrom twoOf rowsText rowText ownersText
+unfolding refusedLines refusalLine digitsOf eventsIn fieldsOf numberFrom split front numberOf digitsFrom twoOf rowsText rowText ownersText
     moreOwners loadedTimed timedLoadAnswer timedAnswer timedAfter nextTimed givenSite givenTable listOk
     hasWindows demandAt dueAt loadAnswer tableOk rowOk run siteAfter areaAfter answerOf siteSend answerPart siteHear siteClose siteTake
     siteEnd sentSite sentArea heardSite closedSite takenSite endedSite loadedSite loadedMember begun waiting

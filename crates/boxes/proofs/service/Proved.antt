@@ -21,7 +21,7 @@ use Rattle.node.proofs.Answers.{test-passed, test-met, both-done}
 use Rattle.node.proofs.Tested.{start-asks, start-done}
 use Rattle.area.specs.Area.{encoded, decoded, valid}
 use Rattle.host.specs.Calls.{afterWant, afterEnd}
-use Rattle.host.specs.Owners.{wants, ends, nodeAfter, areaAfterAll, nodeAfterAll}
+use Rattle.host.specs.Owners.{wants, ends, nodeAfterCall, areaAfterAll, nodeAfterAll}
 use Rattle.host.proofs.Owners.{by-owners}
 use Rattle.site.specs.Members.{nobody, setupOf, memberAt, outside}
 use Rattle.site.specs.Load.{noRow, loadAnswer, loadedMember, loadedSite}
@@ -58,7 +58,7 @@ accepted-demand N j D e d ws h = hit _ _ d (ap isDone h)
 
 -- a want of what is due: it is within its range, or the demand that the node has
 want-due : (N j D e : ℕ) (ws : List Window) → listOk N D ws ≡ true → (n : Node)
-    → nodeAfter n (wants (dueAt ws j e (n .demand))) ≡ wantedNode n (dueAt ws j e (n .demand))
+    → nodeAfterCall n (wants (dueAt ws j e (n .demand))) ≡ wantedNode n (dueAt ws j e (n .demand))
 want-due N j D e ws ok n = go (hasWindows ws j) refl
   where
     d : ℕ
@@ -74,7 +74,8 @@ want-due N j D e ws ok n = go (hasWindows ws j) refl
         ∙ sym q
 
 -- the two calls on an area
-two-calls : (a : List ℕ) (d : ℕ) → valid a ≡ true → afterEnd (afterWant a d) ≡ encoded (nodeAfter (nodeAfter (decoded a) (wants d)) ends)
+two-calls : (a : List ℕ) (d : ℕ) → valid a ≡ true → afterEnd (afterWant a d)
+    ≡ encoded (nodeAfterCall (nodeAfterCall (decoded a) (wants d)) ends)
 unfolding areaAfterAll nodeAfterAll
 two-calls a d v = by-owners .held a v (wants d ∷ ends ∷ [])
 
@@ -164,7 +165,7 @@ service =
           let n = decoded a in
           ap (λ (d : ℕ). afterEnd (afterWant a d)) (accepted-demand N j D e (n .demand) ws h)
           ∙ two-calls a (dueAt ws j e (n .demand)) v
-          ∙ ap (λ (m : Node). encoded (nodeAfter m ends)) (want-due N j D e ws (accepted-list N j D e ws h) n);
+          ∙ ap (λ (m : Node). encoded (nodeAfterCall m ends)) (want-due N j D e ws (accepted-list N j D e ws h) n);
       begins = λ f t D ws ok j o a l.
           let b = by-owners .begun a l (setupOf f j) (rowOf t j .version) (rowOf t j .flags) (firstDemand f t D ws j)
           (starts f t D ws ok j o) in

@@ -23,14 +23,15 @@ use Rattle.host.specs.Slots.{toldSlot, toldCount}
 use Rattle.lists.specs.Bytes.{window}
 use Rattle.site.specs.Members.{setupOf, memberAt, outside, isLive}
 use Rattle.site.specs.Answers.{areaSize, answerOf}
-use Rattle.site.specs.Run.{World, after}
+use Rattle.site.specs.Run.{RunState, after}
 use Rattle.node.specs.declared.Config.{Config}
 use Rattle.site.specs.declared.Table.{Table}
 use Rattle.site.specs.Model.{Member}
 use Rattle.site.specs.declared.Event.{Event}
 use Rattle.traces.specs.Reached.{begin}
 use Rattle.agreement.specs.Demand.{Demand3, final}
-use Rattle.boxes.specs.field.Field.{Box, Field, Act, zeros, reading, versionIn, ownersIn, slotIn, requestIn, phaseIn, ownIn, senderIn}
+use Rattle.boxes.specs.field.Field.{Box, Field, Act, zeros, reading, versionIn, boxOwners, slotIn, requestIn, boxPhase, boxSlots}
+use Rattle.boxes.specs.field.Field.{senderIn}
 use Rattle.boxes.specs.field.Field.{live}
 use Rattle.boxes.specs.field.Field.{sends, fieldRun, fieldAnswers, rowOf, begunField}
 use Rattle.boxes.specs.field.Past.{BoxDetermination, boxTrace, noBoxPast}
@@ -45,13 +46,13 @@ pub record Begins (f : Config) (t : Table) (left : ℕ → List ℕ) : Type 0 wh
 -- nodes
 pub record ReportsAgree (q r : List ℕ) : Type 0 where
   pub near : (versionIn q ≤ versionIn r + 1) × (versionIn r ≤ versionIn q + 1)
-  pub same : versionIn q ≡ versionIn r → ownersIn q ≡ ownersIn r
+  pub same : versionIn q ≡ versionIn r → boxOwners q ≡ boxOwners r
   pub slots : (k : ℕ) → slotIn q k ≢ 0 → slotIn r k ≢ 0 → slotIn q k ≡ slotIn r k
 
 -- what `hydra_slots` wrote for two boxes has no bit in common
 pub record SlotsApart (b c : Box) : Type 0 where
-  pub low : Bits.bitAnd (getD (ownIn b) 0 0) (getD (ownIn c) 0 0) ≡ 0
-  pub high : Bits.bitAnd (getD (ownIn b) 1 0) (getD (ownIn c) 1 0) ≡ 0
+  pub low : Bits.bitAnd (getD (boxSlots b) 0 0) (getD (boxSlots c) 0 0) ≡ 0
+  pub high : Bits.bitAnd (getD (boxSlots b) 1 0) (getD (boxSlots c) 1 0) ≡ 0
 
 -- what holds of the boxes whenever the clock is in negotiation
 pub record Agreeing (x : Field) : Type 0 where
@@ -74,7 +75,7 @@ pub record BoxHeld (b : Box) (r v : ℕ) : Type 0 where
 
 -- a version that a box determined rests on requests of a majority of the N boxes; each box held that request at the round's start, at the
 -- version just below
-pub record BoxGrounded (N : ℕ) (d : BoxDetermination) : Type 0 where
+pub record BoxJustified (N : ℕ) (d : BoxDetermination) : Type 0 where
   pub most : N < 2 * size (d .nodes)
   pub held : (j : ℕ) → isIn (d .nodes) j ≡ true → BoxHeld (d .start j) (entryOf (d .requests) j) (d .version)
 
@@ -86,22 +87,22 @@ pub record SameBoxDetermination (d e : BoxDetermination) : Type 0 where
   pub requests : (j : ℕ) → isIn (d .nodes) j ≡ true → entryOf (d .requests) j ≡ entryOf (e .requests) j
 
 -- each version that a box determines at an accepted close, and any two of one epoch
-pub record BoxesGrounded (N : ℕ) (log : List BoxDetermination) : Type 0 where
-  pub grounded : (d : BoxDetermination) → List·Memᴰ d log → BoxGrounded N d
+pub record BoxesJustified (N : ℕ) (log : List BoxDetermination) : Type 0 where
+  pub justified : (d : BoxDetermination) → List·Memᴰ d log → BoxJustified N d
   pub unique : (d e : BoxDetermination) → List·Memᴰ d log → List·Memᴰ e log → d .epoch ≡ e .epoch → SameBoxDetermination d e
 
 -- `hydra_slots` is answered by 0 for box j, and tells just the slots for which `hydra_read` shows the number j, and how many these are
 pub record SlotsAsRead (b : Box) (j : ℕ) : Type 0 where
   pub answer : slotsAnswer (b .area) (zeros slotsSize) ≡ Done
-  pub slots : (k : ℕ) → toldSlot (ownIn b) k ≡ eqb (slotIn (reading b) k) j
-  pub count : toldCount (ownIn b) ≡ howMany 80 (λ k. eqb (slotIn (reading b) k) j)
+  pub slots : (k : ℕ) → toldSlot (boxSlots b) k ≡ eqb (slotIn (reading b) k) j
+  pub count : toldCount (boxSlots b) ≡ howMany 80 (λ k. eqb (slotIn (reading b) k) j)
 
 -- the calls work
 pub record Working (x : Field) : Type 0 where
   -- the area of a box that is up is a node's, so that no call on it is refused as 14
   pub node : (j : ℕ) → 1 ≤ j → x .boxes j .up ≡ true → valid (x .boxes j .area) ≡ true
   -- live boxes are in the clock's phase, so that no call that the clock allows is refused as 4
-  pub phase : (j : ℕ) → 1 ≤ j → live (x .boxes j) ≡ true → eqb (phaseIn (reading (x .boxes j))) 0 ≡ x .negotiates
+  pub phase : (j : ℕ) → 1 ≤ j → live (x .boxes j) ≡ true → eqb (boxPhase (reading (x .boxes j))) 0 ≡ x .negotiates
   -- where the clock closes a negotiation or ends a round, each call is done
   pub closes : x .negotiates ≡ true → (j : ℕ) → 1 ≤ j → live (x .boxes j) ≡ true
       → closingOf (x .boxes j .area) (x .boxes j .out) (zeros groundSize) ≡ Done
@@ -125,7 +126,7 @@ pub record Plain (x : Field) : Type 0 where
   pub sends : x .negotiates ≡ true → (j : ℕ) → 1 ≤ j → live (x .boxes j) ≡ true → (out : List ℕ) → length out ≡ packetSize
       → outSend (x .boxes j .area) out ≡ outSend (x .boxes j .area) (zeros packetSize)
   pub slots : x .negotiates ≡ true → (j : ℕ) → 1 ≤ j → live (x .boxes j) ≡ true → (out : List ℕ) → length out ≡ slotsSize
-      → outSlots (x .boxes j .area) out ≡ ownIn (x .boxes j)
+      → outSlots (x .boxes j .area) out ≡ boxSlots (x .boxes j)
 
 -- the field after a list of events from boxes just begun, and what was determined in it
 abbrev pub fieldFinal : Config → Table → (ℕ → List ℕ) → List Act → Field
@@ -143,7 +144,7 @@ pub record Shows (m : Member) (b : Box) : Type 0 where
   pub live : live b ≡ isLive m
   pub area : b .up ≡ true → b .area ≡ encoded (m .node)
 
-unfoldable pub siteAnswers : World → List Event → List Answer
+unfoldable pub siteAnswers : RunState → List Event → List Answer
 siteAnswers w [] = []
 siteAnswers w (e ∷ es) = answerOf (w .site) (w .area) e ∷ siteAnswers (after w e) es
 
@@ -161,7 +162,7 @@ pub record Replayed (f : Config) (t : Table) (left : ℕ → List ℕ) (area : L
 -- demand 3 of the boxes where the site may not split, and what their owners have in either form
 pub record FieldDemand3 (f : Config) (t : Table) (left : ℕ → List ℕ) (acts : List Act) : Type 0 where
   pub agreeing : f .split ≡ 0 → Agreeing (fieldFinal f t left acts)
-  pub grounded : f .split ≡ 0 → BoxesGrounded (f .nodes) (boxDeterminations f t left acts)
+  pub justified : f .split ≡ 0 → BoxesJustified (f .nodes) (boxDeterminations f t left acts)
   pub working : Working (fieldFinal f t left acts)
   pub plain : Plain (fieldFinal f t left acts)
   pub replayed : (area : List ℕ) → areaSize ≤ length area → Replayed f t left area acts

@@ -61,23 +61,23 @@ reading b = outRead (b .area) (zeros reportSize)
 abbrev pub versionIn : List ℕ → ℕ
 versionIn r = word32 r 0
 
-abbrev pub ownersIn : List ℕ → List ℕ
-ownersIn r = span r 4 80
+abbrev pub boxOwners : List ℕ → List ℕ
+boxOwners r = span r 4 80
 
 -- the owner of the slot at index k
 abbrev pub slotIn : List ℕ → ℕ → ℕ
-slotIn r k = getD (ownersIn r) k 0
+slotIn r k = getD (boxOwners r) k 0
 
 abbrev pub requestIn : List ℕ → ℕ
 requestIn r = getD r 93 0
 
 -- 0 negotiation, 1 distribution without sending, 2 distribution and sending, 3 waiting
-abbrev pub phaseIn : List ℕ → ℕ
-phaseIn r = getD r 94 0
+abbrev pub boxPhase : List ℕ → ℕ
+boxPhase r = getD r 94 0
 
 -- and `hydra_slots` writes 3 numbers: the box's own slots as two words, and how many they are
-abbrev pub ownIn : Box → List ℕ
-ownIn b = outSlots (b .area) (zeros slotsSize)
+abbrev pub boxSlots : Box → List ℕ
+boxSlots b = outSlots (b .area) (zeros slotsSize)
 
 -- a packet's first byte
 abbrev pub senderIn : List ℕ → ℕ
@@ -85,11 +85,11 @@ senderIn q = getD q 0 0
 
 -- live: up and not waiting
 unfoldable pub live : Box → Bool
-live b = b .up && not (eqb (phaseIn (reading b)) 3)
+live b = b .up && not (eqb (boxPhase (reading b)) 3)
 
 -- sending: what it wrote at this round's close is to be taken
 unfoldable pub sends : Box → Bool
-sends b = eqb (phaseIn (reading b)) 2
+sends b = eqb (boxPhase (reading b)) 2
 
 -- The answers
 --

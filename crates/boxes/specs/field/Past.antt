@@ -59,8 +59,8 @@ abbrev pub atClose : BoxPast → Field → BoxPast
 atClose y x = record { start = y .start; epoch = y .epoch; log = y .log ++ boxesDetermined (x .config .nodes) y (x .boxes) }
 
 -- an accepted end starts a round with the boxes as they are then, and after the last round of an epoch the next epoch
-abbrev pub atEnd : BoxPast → Field → Field → BoxPast
-atEnd y x z = record {
+abbrev pub boxPastAtEnd : BoxPast → Field → Field → BoxPast
+boxPastAtEnd y x z = record {
   start = z .boxes;
   epoch = cond (isLast (x .config) (x .place)) (suc (y .epoch)) (y .epoch);
   log = y .log;
@@ -72,7 +72,7 @@ boxNoted y x (Send j) z = y
 boxNoted y x (Hear j p) z = y
 boxNoted y x Close z = atClose y x
 boxNoted y x (Take j i) z = y
-boxNoted y x End z = atEnd y x z
+boxNoted y x End z = boxPastAtEnd y x z
 boxNoted y x (Want j d) z = y
 boxNoted y x (Crash j) z = y
 boxNoted y x (Restart j flags) z = y

@@ -16,13 +16,13 @@ use Rattle.windows.specs.declared.Window.{Window}
 use Rattle.agreement.specs.Demand.{Demand3, final}
 use Rattle.consensus.specs.Consensus.{Completes}
 use Rattle.agreement.specs.daily.Daily.{finalBy, DailyDemand3}
-use Rattle.desk.specs.listings.Output.{secondHead, eventsIn, callsOf, reports, loadedWorld, dayFits, unfit, outputOf}
+use Rattle.desk.specs.listings.Output.{secondHead, eventsIn, callsOf, refusedLines, loadedState, dayFits, unfit, outputOf}
 
 -- what holds of a script with the settings and table o and the event lines ls, run with a day of D epochs and the windows ws
 pub record Guaranteed (D : ℕ) (ws : List Window) (script area : List ℕ) (o : Opening) (ls : List (List ℕ)) : Type 0 where
   -- the refused lines, and the rows of the site after the list of events
   pub printed : outputOf D ws script area
-      ≡ firstHead (o .config .split) ++ (reports ws (loadedWorld D ws o area) (5 + o .config .nodes) ls
+      ≡ firstHead (o .config .split) ++ (refusedLines ws (loadedState D ws o area) (5 + o .config .nodes) ls
       ++ (secondHead ++ rowsText (o .config .nodes) 0 (finalBy (o .config) (o .table) D ws area (callsOf ws (eventsIn ls)) .members)
       (o .config .slots)))
   -- and of that list demand 3, where the site may not split
@@ -32,7 +32,7 @@ pub record Guaranteed (D : ℕ) (ws : List Window) (script area : List ℕ) (o :
 -- list where the site may not split; of every site, what two nodes know that are complete at one close, after that list or any other
 pub record Plainly (script area : List ℕ) (o : Opening) (ls : List (List ℕ)) : Type 0 where
   pub printed : outputOf 1 [] script area
-      ≡ firstHead (o .config .split) ++ (reports [] (loadedWorld 1 [] o area) (5 + o .config .nodes) ls
+      ≡ firstHead (o .config .split) ++ (refusedLines [] (loadedState 1 [] o area) (5 + o .config .nodes) ls
       ++ (secondHead ++ rowsText (o .config .nodes) 0 (final (o .config) (o .table) area (eventsIn ls) .members) (o .config .slots)))
   pub demand3 : o .config .split ≡ 0 → Demand3 (o .config) (o .table) area (eventsIn ls)
   pub completes : Completes (o .config) (o .table) area

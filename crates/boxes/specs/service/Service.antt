@@ -22,8 +22,8 @@ use Rattle.machine.specs.hours.Hours.{givenMember, timedLoadAnswer, loadedTimed
 use Rattle.lookup.specs.Lookup.{demandAnswer, demandAfter}
 
 -- a node area as the member of a site that is up
-abbrev pub memberOf : List ℕ → Member
-memberOf a = record { up = true; node = decoded a }
+abbrev pub boxMember : List ℕ → Member
+boxMember a = record { up = true; node = decoded a }
 
 -- the table's row of box j, and the demand with which it begins: what `hydra_demand` makes of the row's want for epoch 0
 abbrev pub rowOf : Table → ℕ → Row
@@ -36,7 +36,7 @@ firstDemand f t D ws j = demandAfter (f .nodes) j D ws 0 (rowOf t j .want)
 pub record Service : Type 0 where
   -- of every node area a, for node j of N, a day of D epochs, and the epoch e that begins with this end
   pub same : (N j D e : ℕ) (ws : List Window) → demandAnswer N j D ws e ≡ Done → (a : List ℕ) → valid a ≡ true
-      → afterEnd (afterWant a (demandAfter N j D ws e (decoded a .demand))) ≡ encoded (endMember (givenMember ws e j (memberOf a)) .node)
+      → afterEnd (afterWant a (demandAfter N j D ws e (decoded a .demand))) ≡ encoded (endMember (givenMember ws e j (boxMember a)) .node)
   -- of every box j of a site whose load with windows is accepted, on memory of 828 bytes that hold anything: the lookup and the beginning
   -- are done, and the area is that node's
   pub begins : (f : Config) (t : Table) (D : ℕ) (ws : List Window) → timedLoadAnswer f t D ws ≡ Done → (j : ℕ) → outside f j ≡ false

@@ -15,12 +15,12 @@ use Rattle.site.specs.Members.{nobody, isLive, stateOf}
 use Rattle.site.specs.Model.{Member}
 use Rattle.site.specs.declared.State.{State}
 use Rattle.site.specs.declared.State.the-variants.{Live, Waiting, Down}
-use Rattle.desk.specs.listing.Rows.{reportLine, reportOf, rowLine, stateText, moreOwners, ownersText, shown, ownersShown, rowText}
+use Rattle.desk.specs.listing.Rows.{reportLine, refusalLine, rowLine, stateText, moreOwners, ownersText, shown, ownersShown, rowText}
 use Rattle.desk.specs.listing.Rows.{rowsText}
 
 -- nine bytes are enough for a report of a line number below 100,000
-pub report-short : (n : ℕ) (a : Answer) → n < 100000 → length (reportOf n a) ≤ 9
-unfolding reportOf tens
+pub report-short : (n : ℕ) (a : Answer) → n < 100000 → length (refusalLine n a) ≤ 9
+unfolding refusalLine tens
 report-short n a h = go (isDone a)
   where
     go : (t : Bool) → length (cond t [] (reportLine n (number a))) ≤ 9

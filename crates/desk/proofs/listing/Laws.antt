@@ -20,7 +20,7 @@ use Rattle.node.specs.Answers.{number, isDone}
 use Rattle.node.specs.declared.Answer.{Answer}
 use Rattle.site.specs.Members.{isLive, stateOf}
 use Rattle.site.specs.Model.{Member}
-use Rattle.desk.specs.listing.Rows.{firstHead, reportOf, stateText, moreOwners, ownersText, shown, rowText, reportLine}
+use Rattle.desk.specs.listing.Rows.{firstHead, refusalLine, stateText, moreOwners, ownersText, shown, rowText, reportLine}
 use Rattle.desk.specs.listing.Inner.{shownRow, shownOf, ownersLive, field, stateField}
 use Rattle.desk.specs.declared.Shown.{Shown}
 use Rattle.desk.proofs.listing.Bound.{parts-short}
@@ -56,12 +56,12 @@ pub field-put : (x : ℕ) {l m n : List ℕ} {at i j : ℕ} → at + length (fie
 field-put x {l} {at = at} h t u = finish-by (32 ∷ []) (step (decimal x) (32 ∷ []) (start l at (field x) h) t) u
 
 -- a report: none for an accepted line
-pub report-none : (n : ℕ) (a : Answer) → isDone a ≡ true → reportOf n a ≡ []
-unfolding reportOf
+pub report-none : (n : ℕ) (a : Answer) → isDone a ≡ true → refusalLine n a ≡ []
+unfolding refusalLine
 report-none n a e = rw e
 
-pub report-some : (n : ℕ) (a : Answer) (x : ℕ) → isDone a ≡ false → x ≡ number a → reportLine n x ≡ reportOf n a
-unfolding reportOf
+pub report-some : (n : ℕ) (a : Answer) (x : ℕ) → isDone a ≡ false → x ≡ number a → reportLine n x ≡ refusalLine n a
+unfolding refusalLine
 report-some n a x e f = rw (e, f)
 
 pub report-length : (n x : ℕ) → length (reportLine n x) ≡ length (decimal n) + length (decimal x) + 2
@@ -85,8 +85,8 @@ head-short k = go (eqb k 1)
     go true = omega arith
     go false = omega arith
 
-pub refusal-short : (k n : ℕ) (a : Answer) → length (firstHead k ++ reportOf n a) ≤ 50
-unfolding reportOf
+pub refusal-short : (k n : ℕ) (a : Answer) → length (firstHead k ++ refusalLine n a) ≤ 50
+unfolding refusalLine
 refusal-short k n a = go (isDone a)
   where
     go : (t : Bool) → length (firstHead k ++ cond t [] (reportLine n (number a))) ≤ 50
@@ -94,9 +94,9 @@ refusal-short k n a = go (isDone a)
     go false = omega (arith, length-append (firstHead k) (reportLine n (number a)), head-short k, report-long n (number a))
 
 pub refusal-put : (k n : ℕ) (a : Answer) {l m o : List ℕ} {i j : ℕ} → 50 ≤ length l → Tried l 0 (firstHead k) i m
-    → Tried m i (reportOf n a) j o → Put l 0 (firstHead k ++ reportOf n a) j o
-refusal-put k n a {l} h t u = finish-by (reportOf n a)
-    (step (firstHead k) (reportOf n a) (start l 0 (firstHead k ++ reportOf n a) (omega (arith, refusal-short k n a))) t) u
+    → Tried m i (refusalLine n a) j o → Put l 0 (firstHead k ++ refusalLine n a) j o
+refusal-put k n a {l} h t u = finish-by (refusalLine n a)
+    (step (firstHead k) (refusalLine n a) (start l 0 (firstHead k ++ refusalLine n a) (omega (arith, refusal-short k n a))) t) u
 
 -- owners, from a place on
 pub more-end : (s : List ℕ) (i : ℕ) → length s ≤ i → moreOwners (drop i s) ≡ []

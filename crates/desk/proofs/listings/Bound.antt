@@ -11,27 +11,27 @@ use Rattle.node.specs.declared.Answer.{Answer}
 use Rattle.node.specs.declared.Answer.the-variants.{OutOfRange, BadWindows}
 use Rattle.site.specs.Model.{Member}
 use Rattle.windows.specs.declared.Window.{Window}
-use Rattle.machine.specs.hours.Calls.{TimedWorld}
+use Rattle.machine.specs.hours.Calls.{TimedState}
 use Rattle.script.specs.events.Events.{eventOf}
 use Rattle.script.specs.load.Opening.{Opening}
 use Rattle.script.proofs.load.Outcome.{lines, lines-behind, lines-split, WellFormed}
-use Rattle.desk.specs.listing.Rows.{firstHead, reportOf, rowsText}
+use Rattle.desk.specs.listing.Rows.{firstHead, refusalLine, rowsText}
 use Rattle.desk.proofs.listing.Bound.{report-short, rows-short}
 use Rattle.desk.proofs.listing.Laws.{head-short, refusal-short}
 use Rattle.desk.specs.reasons.Reasons.{reasonOf, lineReport}
 use Rattle.desk.proofs.reasons.Closes.{sized}
 use Rattle.desk.proofs.reasons.Bound.{line-short}
-use Rattle.desk.specs.listings.Output.{secondHead, topScript, lineAnswer, lineAfter, reports, loadedWorld, finished, dayFits}
-use Rattle.desk.specs.listings.Why.{told, headPart}
+use Rattle.desk.specs.listings.Output.{secondHead, topScript, lineAnswer, lineAfter, refusedLines, loadedState, finished, dayFits}
+use Rattle.desk.specs.listings.Why.{reasonLines, headPart}
 use Rattle.desk.specs.listings.Calls.{roomOf}
 use Rattle.desk.specs.listings.Inner.{refusalText, ranText, openText}
 use Rattle.desk.specs.declared.View.{View}
 use Rattle.desk.specs.declared.View.the-variants.{Refusals, Reasons}
 
 -- nine bytes for each line
-reports-short : (ws : List Window) (ps : List (List ℕ)) (w : TimedWorld) (n : ℕ) → n + lines ps ≤ 99999
-    → length (reports ws w n ps) ≤ 9 * lines ps
-unfolding reports lines
+reports-short : (ws : List Window) (ps : List (List ℕ)) (w : TimedState) (n : ℕ) → n + lines ps ≤ 99999
+    → length (refusedLines ws w n ps) ≤ 9 * lines ps
+unfolding refusedLines lines
 reports-short ws [] w n h = omega arith
 reports-short ws ([] ∷ []) w n h = omega arith
 reports-short ws ((b ∷ l) ∷ []) w n h = omega (arith, report-short n OutOfRange (omega arith))
@@ -39,22 +39,22 @@ reports-short ws (l ∷ m ∷ ls) w n h =
     omega (
       arith,
       lines-behind l m ls,
-      length-append (reportOf n (lineAnswer ws w (eventOf l))) (reports ws (lineAfter ws w (eventOf l)) (n + 1) (m ∷ ls)),
+      length-append (refusalLine n (lineAnswer ws w (eventOf l))) (refusedLines ws (lineAfter ws w (eventOf l)) (n + 1) (m ∷ ls)),
       report-short n (lineAnswer ws w (eventOf l)) (omega (arith, lines-behind l m ls)),
       reports-short ws (m ∷ ls) (lineAfter ws w (eventOf l)) (n + 1) (omega (arith, lines-behind l m ls)),
     )
 
 -- all lines' reasons
-told-short : (ps : List (List ℕ)) (j : ℕ) (ws : List Window) (w : TimedWorld) (n : ℕ) → n + sized ps ≤ 99999
-    → length (told j ws w n ps) ≤ 4 * sized ps
-unfolding told sized
+told-short : (ps : List (List ℕ)) (j : ℕ) (ws : List Window) (w : TimedState) (n : ℕ) → n + sized ps ≤ 99999
+    → length (reasonLines j ws w n ps) ≤ 4 * sized ps
+unfolding reasonLines sized
 told-short [] j ws w n k = omega arith
 told-short (l ∷ []) j ws w n k = omega arith
 told-short (l ∷ m ∷ ls) j ws w n k =
     omega (
       arith,
       length-append (reasonOf j n (lineReport (w .timed .site) (w .area) (eventOf l) .told))
-          (told j ws (lineAfter ws w (eventOf l)) (n + 1) (m ∷ ls)),
+          (reasonLines j ws (lineAfter ws w (eventOf l)) (n + 1) (m ∷ ls)),
       line-short j (w .timed .site) (w .area) n l (omega arith),
       told-short (m ∷ ls) j ws (lineAfter ws w (eventOf l)) (n + 1) (omega arith),
     )
@@ -83,8 +83,8 @@ module _ (D : ℕ) (ws : List Window) (s a : List ℕ) (o : Opening) (ls : List 
   abbrev first : ℕ
   first = 5 + o .config .nodes
 
-  abbrev begun : TimedWorld
-  begun = loadedWorld D ws o a
+  abbrev begun : TimedState
+  begun = loadedState D ws o a
 
   abbrev members : List Member
   members = finished D ws o a ls .timed .site .members
@@ -99,8 +99,8 @@ module _ (D : ℕ) (ws : List Window) (s a : List ℕ) (o : Opening) (ls : List 
         q .lines,
         q .limits .nodes,
         head-short k,
-        length-append (firstHead k) (reports ws begun first ls ++ (secondHead ++ rows)),
-        length-append (reports ws begun first ls) (secondHead ++ rows),
+        length-append (firstHead k) (refusedLines ws begun first ls ++ (secondHead ++ rows)),
+        length-append (refusedLines ws begun first ls) (secondHead ++ rows),
         reports-short ws ls begun first (omega (arith, lines-split 10 s, q .lines, q .limits .nodes)),
         rows-short (o .config .nodes) 0 members (o .config .slots) (q .limits .slots),
       )
@@ -109,8 +109,8 @@ module _ (D : ℕ) (ws : List Window) (s a : List ℕ) (o : Opening) (ls : List 
         arith,
         part-head j,
         q .limits .nodes,
-        length-append (headPart j) (told j ws begun first ls ++ []),
-        length-append (told j ws begun first ls) [],
+        length-append (headPart j) (reasonLines j ws begun first ls ++ []),
+        length-append (reasonLines j ws begun first ls) [],
         told-short ls j ws begun first (omega (arith, q .limits .nodes)),
       )
 

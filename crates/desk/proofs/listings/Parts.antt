@@ -23,25 +23,26 @@ use Rattle.windows.specs.Windows.{listOk}
 use Rattle.windows.specs.declared.Window.{Window}
 use Rattle.machine.specs.Layout.{Store, store, siteIn}
 use Rattle.machine.specs.hours.Hours.{Timed, loadedTimed}
-use Rattle.machine.specs.hours.Calls.{TimedWorld}
+use Rattle.machine.specs.hours.Calls.{TimedState}
 use Rattle.machine.specs.hours.Stored.{timedIn, storedLoad, timedLoadedSite}
 use Rattle.machine.specs.declared.Day.{Day}
-use Rattle.machine.specs.declared.Turned.{Turned}
+use Rattle.machine.specs.declared.DayAnswer.{DayAnswer}
 use Rattle.machine.proofs.hours.Stored.{Long, as-load, as-begun}
 use Rattle.words.proofs.Tests.{never, hit, skip}
 use Rattle.script.specs.load.Opening.{Reading, refused, got, Opening, opening, configRead, readBack}
-use Rattle.script.specs.declared.Opened.{Opened}
+use Rattle.script.specs.declared.ScriptHead.{ScriptHead}
 use Rattle.script.proofs.load.Outcome.{WellFormed, opening-fine, opening-loads}
-use Rattle.desk.specs.listing.Rows.{firstHead, reportOf}
+use Rattle.desk.specs.listing.Rows.{firstHead, refusalLine}
 use Rattle.desk.proofs.listing.Laws.{refusal-put, tried-none}
 use Rattle.desk.proofs.reasons.Closes.{split-sized}
 use Rattle.desk.specs.listings.Output.{topScript, eventsIn, runBy, dayFits, leftArea, body, bodyArea, unfit, outputOf, finalArea}
 use Rattle.desk.specs.listings.Output as desk
 use Rattle.desk.specs.listings.Why.{reasonsHead, headPart, whyBody, whyOf}
-use Rattle.desk.specs.listings.Calls.{textOf, roomOf, hasRoom, runAnswer, runLength, ranOf, outAfter, areaAfter, lengthAfter}
+use Rattle.desk.specs.listings.Calls.{textOf, roomOf, outputFits, runAnswer, runLength, runResultOf, outAfter, areaAfterRun}
+use Rattle.desk.specs.listings.Calls.{lengthAfter}
 use Rattle.desk.specs.listings.Inner.{linesText, Runs, openingOf, linesOf, hasHead, refusalText, headText, restText, ranText}
 use Rattle.desk.specs.listings.Inner.{openText, Fits}
-use Rattle.desk.specs.declared.Ran.{Ran}
+use Rattle.desk.specs.declared.RunResult.{RunResult}
 use Rattle.desk.specs.declared.View.{View}
 use Rattle.desk.specs.declared.View.the-variants.{Refusals, Reasons}
 use Rattle.desk.proofs.listings.Bound.{refused-short, room-some, open-short}
@@ -53,7 +54,7 @@ refused-none (Reasons zero) k n x l h = never h
 refused-none (Reasons (suc i)) k n x l h = none l 0
 
 pub refused-put : (v : View) (k n : ℕ) (x : Answer) {l m o : List ℕ} {i r : ℕ} → hasHead v ≡ true → 50 ≤ length l
-    → Tried l 0 (firstHead k) i m → Tried m i (reportOf n x) r o
+    → Tried l 0 (firstHead k) i m → Tried m i (refusalLine n x) r o
     → Put l 0 (refusalText v k n x) r o
 refused-put Refusals k n x h b t u = refusal-put k n x b t u
 refused-put (Reasons zero) k n x h b t u = refusal-put k n x b t u
@@ -75,10 +76,10 @@ pub zeros-long : Long zeros
 zeros-long = (omega (arith, length-replicate {A = ℕ} 262 0), omega (arith, length-replicate {A = ℕ} 24769 0))
 
 -- what a load of settings and table that were read answers tells whether the list keeps the rules
-module _ (D : ℕ) (ws : List Window) (o : Opened) (loads : loadAnswer (o .config) (o .table) ≡ Done) (r : Turned)
+module _ (D : ℕ) (ws : List Window) (o : ScriptHead) (loads : loadAnswer (o .config) (o .table) ≡ Done) (r : DayAnswer)
     (e : r ≡ storedLoad zeros (o .config) (o .table) D ws) where
   answer-is : r .answer ≡ cond (dayFits D ws (openingOf o)) Done BadWindows
-  answer-is = ap (λ (x : Turned). x .answer) e ∙ as-load zeros (o .config) (o .table) D ws zeros-long loads
+  answer-is = ap (λ (x : DayAnswer). x .answer) e ∙ as-load zeros (o .config) (o .table) D ws zeros-long loads
 
   pub not-loaded : isDone (r .answer) ≡ false → (dayFits D ws (openingOf o) ≡ false) × (r .answer ≡ BadWindows)
   not-loaded k = go (dayFits D ws (openingOf o)) refl
@@ -97,18 +98,18 @@ module _ (D : ℕ) (ws : List Window) (o : Opened) (loads : loadAnswer (o .confi
       go true h = (
         h,
         as-begun zeros u (o .config) (o .table) D ws (r .day)
-            (sym (ap (λ (x : Turned). x .answer) e) ∙ answer-is ∙ hit _ _ _ h) (ap (λ (x : Turned). x .day) e) q,
+            (sym (ap (λ (x : DayAnswer). x .answer) e) ∙ answer-is ∙ hit _ _ _ h) (ap (λ (x : DayAnswer). x .day) e) q,
       )
       go false h = never (sym k ∙ ap isDone (answer-is ∙ skip _ _ _ _ h refl))
 
 -- the loaded site keeps the rules of its list
-pub begun-list : (D : ℕ) (ws : List Window) (o : Opened) (u : Store) (d : Day) → dayFits D ws (openingOf o) ≡ true
+pub begun-list : (D : ℕ) (ws : List Window) (o : ScriptHead) (u : Store) (d : Day) → dayFits D ws (openingOf o) ≡ true
     → timedIn u d ≡ loadedTimed (o .config) (o .table) D ws → listOk (siteIn u .config .nodes) (d .length) ws ≡ true
 unfolding loadedTimed loadedSite
 begun-list D ws o u d h q = ap (λ (t : Timed). listOk (t .site .config .nodes) (t .day .length) ws) q ∙ h
 
 -- a script that opens, with a list that is refused
-module _ (v : View) (D : ℕ) (ws : List Window) (s : List ℕ) (o : Opened) (a : List ℕ) (bad : dayFits D ws (openingOf o) ≡ false) where
+module _ (v : View) (D : ℕ) (ws : List Window) (s : List ℕ) (o : ScriptHead) (a : List ℕ) (bad : dayFits D ws (openingOf o) ≡ false) where
   pub bad-put : {out m : List ℕ} {r : ℕ} (x : Answer) → x ≡ BadWindows → Put out 0 (refusalText v (o .config .split) 0 x) r m
       → Put out 0 (openText v D ws (openingOf o) a (linesOf s o)) r m
   bad-put x e p = recast (ap (refusalText v (o .config .split) 0) e ∙ sym (skip _ _ _ _ bad refl)) p
@@ -117,20 +118,21 @@ module _ (v : View) (D : ℕ) (ws : List Window) (s : List ℕ) (o : Opened) (a 
   bad-area = sym (skip _ _ _ _ bad refl)
 
 -- a site and its day, with the area
-abbrev world : Timed → List ℕ → TimedWorld
-world t a = record { timed = t; area = a }
+abbrev state : Timed → List ℕ → TimedState
+state t a = record { timed = t; area = a }
 
 -- a script that is run, and the site that it begins with
-module _ (v : View) (D : ℕ) (ws : List Window) (s : List ℕ) (o : Opened) (a : List ℕ) (b : Timed) (fine : dayFits D ws (openingOf o) ≡ true)
+module _ (v : View) (D : ℕ) (ws : List Window) (s : List ℕ) (o : ScriptHead) (a : List ℕ) (b : Timed)
+    (fine : dayFits D ws (openingOf o) ≡ true)
     (e : b ≡ loadedTimed (o .config) (o .table) D ws) where
   abbrev text : Timed → List ℕ
-  text x = linesText v ws (world x a) (5 + o .config .nodes) (linesOf s o)
+  text x = linesText v ws (state x a) (5 + o .config .nodes) (linesOf s o)
 
   abbrev rest : List Member → List ℕ
   rest ms = restText v (o .config .nodes) (o .config .slots) ms
 
   abbrev last : Timed → List Member
-  last x = runBy ws (world x a) (eventsIn (linesOf s o)) .timed .site .members
+  last x = runBy ws (state x a) (eventsIn (linesOf s o)) .timed .site .members
 
   open-is : openText v D ws (openingOf o) a (linesOf s o) ≡ headText v (o .config .split) ++ (text b ++ rest (last b))
   open-is = hit _ _ _ fine ∙ ap (λ (x : Timed). headText v (o .config .split) ++ (text x ++ rest (last x))) (sym e)
@@ -145,7 +147,7 @@ module _ (v : View) (D : ℕ) (ws : List Window) (s : List ℕ) (o : Opened) (a 
     pub run-room : i + length (text b) ≤ length m
     run-room = room-for (text b) (rest (last b)) lines-left
 
-    module _ {r : ℕ} {kept : Store} {k c : List ℕ} (q : Runs v ws (world b a) (5 + o .config .nodes) (linesOf s o) m i r kept k c) where
+    module _ {r : ℕ} {kept : Store} {k c : List ℕ} (q : Runs v ws (state b a) (5 + o .config .nodes) (linesOf s o) m i r kept k c) where
       -- the rest is left behind them
       rest-left : Left out 0 (openText v D ws (openingOf o) a (linesOf s o)) k r (rest (siteIn kept .members))
       rest-left = leftover (ap (λ (x : Site). rest (x .members)) (sym (q .site))) (next (text b) (rest (last b)) lines-left (q .put))
@@ -159,7 +161,7 @@ module _ (v : View) (D : ℕ) (ws : List Window) (s : List ℕ) (o : Opened) (a 
 
       -- the area is that of the run
       pub area-is : c ≡ leftArea D ws (openingOf o) a (linesOf s o)
-      area-is = q .area ∙ ap (λ (x : Timed). runBy ws (world x a) (eventsIn (linesOf s o)) .area) e ∙ sym (hit _ _ _ fine)
+      area-is = q .area ∙ ap (λ (x : Timed). runBy ws (state x a) (eventsIn (linesOf s o)) .area) e ∙ sym (hit _ _ _ fine)
 
 -- what a whole output is: too short an area, too long a script, a refusal, and a script that opens
 unfit-text : (v : View) (D : ℕ) (ws : List Window) (s a : List ℕ) → unfit s a ≡ true → textOf v D ws s a ≡ refusalText v 0 0 NoRoom
@@ -187,14 +189,14 @@ opened-text : (v : View) (D : ℕ) (ws : List Window) (a : List ℕ) (o : Openin
     → readText v D ws (o .config .split) a (got o ls) ≡ openText v D ws o a ls
 opened-text Refusals D ws a o ls = go (dayFits D ws o)
   where
-    go : (t : Bool) → firstHead (o .config .split) ++ cond t (desk.ranText D ws o a ls) (reportOf 0 BadWindows)
+    go : (t : Bool) → firstHead (o .config .split) ++ cond t (desk.ranText D ws o a ls) (refusalLine 0 BadWindows)
         ≡ cond t (ranText Refusals D ws o a ls) (refusalText Refusals (o .config .split) 0 BadWindows)
     go true = refl
     go false = refl
 opened-text (Reasons j) D ws a o ls = go (dayFits D ws o)
   where
     lines : List ℕ
-    lines = linesText (Reasons j) ws (desk.loadedWorld D ws o a) (5 + o .config .nodes) ls
+    lines = linesText (Reasons j) ws (desk.loadedState D ws o a) (5 + o .config .nodes) ls
 
     go : (t : Bool) → cond t (headPart j ++ lines) (refusalText (Reasons j) (o .config .split) 0 BadWindows)
         ≡ cond t (headPart j ++ (lines ++ [])) (refusalText (Reasons j) (o .config .split) 0 BadWindows)
@@ -222,7 +224,7 @@ module _ (v : View) (D : ℕ) (ws : List Window) (s a : List ℕ) where
       → Put out 0 (textOf v D ws s a) r m × (r ≤ roomOf v (length s))
   refusal-is k n x e p = (recast (sym e) p, omega (arith, p .to, refused-short v k n x, room-some v (length s)))
 
-  module _ (h : areaSize ≤ length a) (k : length s ≤ topScript) (o : Opened) (e : readBack s o ≡ opening (split 10 s))
+  module _ (h : areaSize ≤ length a) (k : length s ≤ topScript) (o : ScriptHead) (e : readBack s o ≡ opening (split 10 s))
       (read : o .config ≡ configRead (split 10 s)) where
     fits-is : unfit s a ≡ false
     fits-is = rw (le-ltb (length a) areaSize h, le-ltb topScript (length s) k)
@@ -278,35 +280,38 @@ module _ (v : View) (D : ℕ) (ws : List Window) (s a : List ℕ) where
 -- what the calls answer and leave: without room, and with it
 module _ (v : View) (D : ℕ) (ws : List Window) (s a out : List ℕ) where
   pub no-room : length out < roomOf v (length s)
-      → (record { answer = NoRoom; length = 0 } ≡ ranOf v D ws s a out) × (out ≡ outAfter v D ws s a out) × (a ≡ areaAfter v D ws s a out)
-  unfolding runAnswer runLength outAfter areaAfter
+      → (record { answer = NoRoom; length = 0 } ≡ runResultOf v D ws s a out) × (out ≡ outAfter v D ws s a out)
+      × (a ≡ areaAfterRun v D ws s a out)
+  unfolding runAnswer runLength outAfter areaAfterRun
   no-room h =
-      let e : hasRoom v s out ≡ false = lt-leb (roomOf v (length s)) (length out) h in
+      let e : outputFits v s out ≡ false = lt-leb (roomOf v (length s)) (length out) h in
       (rw e, rw e, rw e)
 
   pub with-room : {m b : List ℕ} {n : ℕ} → roomOf v (length s) ≤ length out → Put out 0 (textOf v D ws s a) n m → b ≡ finalArea D ws s a
-      → (record { answer = Done; length = n } ≡ ranOf v D ws s a out) × (m ≡ outAfter v D ws s a out) × (b ≡ areaAfter v D ws s a out)
-  unfolding runAnswer runLength outAfter areaAfter
+      → (record { answer = Done; length = n } ≡ runResultOf v D ws s a out) × (m ≡ outAfter v D ws s a out)
+      × (b ≡ areaAfterRun v D ws s a out)
+  unfolding runAnswer runLength outAfter areaAfterRun
   with-room {m} {b} {n} h p f =
-      let e : hasRoom v s out ≡ true = le-leb (roomOf v (length s)) (length out) h in
+      let e : outputFits v s out ≡ true = le-leb (roomOf v (length s)) (length out) h in
       let l : n ≡ length (textOf v D ws s a) = omega (arith, p .to) in
       (rw (e, l), rw e (p .is), rw e f)
 
   -- an answer of the run, and what the call for C makes of it
-  pub run-done : (r : Ran) (n : ℕ) → r ≡ ranOf v D ws s a out → isDone (r .answer) ≡ true → (0 ≡ number (runAnswer v s out))
+  pub run-done : (r : RunResult) (n : ℕ) → r ≡ runResultOf v D ws s a out → isDone (r .answer) ≡ true → (0 ≡ number (runAnswer v s out))
       × (r .length ≡ lengthAfter v D ws s a out n)
   unfolding runAnswer runLength lengthAfter
-  run-done r n e h = go (hasRoom v s out) (ap (λ (x : Ran). x .length) e) (sym (ap (λ (x : Ran). isDone (x .answer)) e) ∙ h)
+  run-done r n e h = go (outputFits v s out) (ap (λ (x : RunResult). x .length) e) (sym (ap (λ (x : RunResult). isDone (x .answer)) e) ∙ h)
     where
       go : (t : Bool) → r .length ≡ cond t (length (textOf v D ws s a)) 0 → isDone (cond t Done NoRoom) ≡ true
           → (0 ≡ number (cond t Done NoRoom)) × (r .length ≡ cond t (length (textOf v D ws s a)) n)
       go true l d = (refl, l)
       go false l d = absurd (let z : _≡_ {A = ℕ} 0 1 = cc in omega arith)
 
-  pub run-refused : (r : Ran) (n : ℕ) → r ≡ ranOf v D ws s a out → isDone (r .answer) ≡ false
+  pub run-refused : (r : RunResult) (n : ℕ) → r ≡ runResultOf v D ws s a out → isDone (r .answer) ≡ false
       → (number (r .answer) ≡ number (runAnswer v s out)) × (n ≡ lengthAfter v D ws s a out n)
   unfolding runAnswer lengthAfter
-  run-refused r n e h = (ap (λ (x : Ran). number (x .answer)) e, go (hasRoom v s out) (sym (ap (λ (x : Ran). isDone (x .answer)) e) ∙ h))
+  run-refused r n e h =
+      (ap (λ (x : RunResult). number (x .answer)) e, go (outputFits v s out) (sym (ap (λ (x : RunResult). isDone (x .answer)) e) ∙ h))
     where
       go : (t : Bool) → isDone (cond t Done NoRoom) ≡ false → n ≡ cond t (length (textOf v D ws s a)) n
       go true d = absurd (let z : _≡_ {A = ℕ} 0 1 = cc in omega arith)

@@ -18,10 +18,10 @@ use Rattle.windows.specs.declared.Window.{Window}
 use Rattle.windows.specs.declared.Windows.{Windows}
 use Rattle.windows.proofs.Laws.{too-many, copy-whole, copy-long}
 use Rattle.script.specs.load.Opening.{Reading, refused, got, Opening, opening}
-use Rattle.desk.specs.listing.Rows.{firstHead, reportOf}
-use Rattle.desk.specs.listings.Output.{splitTold, loadedWorld, finished, dayFits, ranText, body, bodyArea, unfit, outputOf, finalArea}
-use Rattle.desk.specs.listings.Why.{told, refusalPart, headPart, whyBody, whyOf}
-use Rattle.desk.specs.listings.Calls.{textOf, hasRoom, runAnswer, outAfter, areaAfter, lengthAfter, replayedOf}
+use Rattle.desk.specs.listing.Rows.{firstHead, refusalLine}
+use Rattle.desk.specs.listings.Output.{splitTold, loadedState, finished, dayFits, ranText, body, bodyArea, unfit, outputOf, finalArea}
+use Rattle.desk.specs.listings.Why.{reasonLines, refusalPart, headPart, whyBody, whyOf}
+use Rattle.desk.specs.listings.Calls.{textOf, outputFits, runAnswer, outAfter, areaAfterRun, lengthAfter, replayedOf}
 use Rattle.desk.specs.declared.Replayed.{Replayed}
 use Rattle.desk.specs.declared.View.{View}
 use Rattle.desk.specs.declared.View.the-variants.{Refusals, Reasons}
@@ -45,11 +45,12 @@ module _ (D : ℕ) (ws : List Window) where
 
   body-seen : (area : List ℕ) (r : Reading Opening) → body D seen area r ≡ body D ws area r
   body-seen area (refused n a) = refl
-  body-seen area (got o ls) = chosen-seen o (λ vs. ranText D vs o area ls) (reportOf 0 BadWindows)
+  body-seen area (got o ls) = chosen-seen o (λ vs. ranText D vs o area ls) (refusalLine 0 BadWindows)
 
   part-seen : (j split : ℕ) (area : List ℕ) (r : Reading Opening) → whyBody j D seen split area r ≡ whyBody j D ws split area r
   part-seen j split area (refused n a) = refl
-  part-seen j split area (got o ls) = chosen-seen o (λ vs. headPart j ++ told j vs (loadedWorld D vs o area) (5 + o .config .nodes) ls)
+  part-seen j split area (got o ls) =
+      chosen-seen o (λ vs. headPart j ++ reasonLines j vs (loadedState D vs o area) (5 + o .config .nodes) ls)
       (refusalPart j split 0 BadWindows)
 
   body-area-seen : (area : List ℕ) (r : Reading Opening) → bodyArea D seen area r ≡ bodyArea D ws area r
@@ -60,7 +61,8 @@ module _ (D : ℕ) (ws : List Window) where
   unfolding outputOf whyOf
   text-seen (Reasons j) script area = ap (cond (unfit script area) (refusalPart j 0 0 NoRoom))
       (part-seen j (splitTold script area) area (opening (split 10 script)))
-  text-seen Refusals script area = ap (λ (x : List ℕ). firstHead (splitTold script area) ++ cond (unfit script area) (reportOf 0 NoRoom) x)
+  text-seen Refusals script area =
+      ap (λ (x : List ℕ). firstHead (splitTold script area) ++ cond (unfit script area) (refusalLine 0 NoRoom) x)
       (body-seen area (opening (split 10 script)))
 
   final-seen : (script area : List ℕ) → finalArea D seen script area ≡ finalArea D ws script area
@@ -70,30 +72,30 @@ module _ (D : ℕ) (ws : List Window) where
   -- what a call for C answers and leaves, part by part
   out-seen : (v : View) (script area out : List ℕ) → outAfter v D seen script area out ≡ outAfter v D ws script area out
   unfolding outAfter
-  out-seen v script area out = ap (λ (x : List ℕ). cond (hasRoom v script out) (written out 0 x) out) (text-seen v script area)
+  out-seen v script area out = ap (λ (x : List ℕ). cond (outputFits v script out) (written out 0 x) out) (text-seen v script area)
 
-  area-seen : (v : View) (script area out : List ℕ) → areaAfter v D seen script area out ≡ areaAfter v D ws script area out
-  unfolding areaAfter
-  area-seen v script area out = ap (λ (x : List ℕ). cond (hasRoom v script out) x area) (final-seen script area)
+  area-seen : (v : View) (script area out : List ℕ) → areaAfterRun v D seen script area out ≡ areaAfterRun v D ws script area out
+  unfolding areaAfterRun
+  area-seen v script area out = ap (λ (x : List ℕ). cond (outputFits v script out) x area) (final-seen script area)
 
   replayed-seen : (v : View) (script area out : List ℕ) (n : ℕ) → replayedOf v D seen script area out n
       ≡ replayedOf v D ws script area out n
   unfolding lengthAfter
   replayed-seen v script area out n =
-      ap (λ (x : List ℕ). record { code = number (runAnswer v script out); length = cond (hasRoom v script out) (length x) n })
+      ap (λ (x : List ℕ). record { code = number (runAnswer v script out); length = cond (outputFits v script out) (length x) n })
       (text-seen v script area)
 
   -- and whole, from what was had of the copy
   pub call-seen : (v : View) (script area out : List ℕ) (n : ℕ) {w : Windows} {r : Replayed} {a o : List ℕ} → w ≡ copyOf ws
-      → (r ≡ replayedOf v D (listOf w) script area out n) × (a ≡ areaAfter v D (listOf w) script area out)
+      → (r ≡ replayedOf v D (listOf w) script area out n) × (a ≡ areaAfterRun v D (listOf w) script area out)
       × (o ≡ outAfter v D (listOf w) script area out)
-      → (r .code ≡ number (runAnswer v script out)) × (a ≡ areaAfter v D ws script area out) × (o ≡ outAfter v D ws script area out)
+      → (r .code ≡ number (runAnswer v script out)) × (a ≡ areaAfterRun v D ws script area out) × (o ≡ outAfter v D ws script area out)
       × (r .length ≡ lengthAfter v D ws script area out n)
   call-seen v script area out n {w} {r} c e =
       let f : r ≡ replayedOf v D ws script area out n =
       e .0 ∙ ap (λ (z : Windows). replayedOf v D (listOf z) script area out n) c ∙ replayed-seen v script area out n in (
         ap (λ (z : Replayed). z .code) f,
-        e .1 ∙ ap (λ (z : Windows). areaAfter v D (listOf z) script area out) c ∙ area-seen v script area out,
+        e .1 ∙ ap (λ (z : Windows). areaAfterRun v D (listOf z) script area out) c ∙ area-seen v script area out,
         e .2 ∙ ap (λ (z : Windows). outAfter v D (listOf z) script area out) c ∙ out-seen v script area out,
         ap (λ (z : Replayed). z .length) f,
       )

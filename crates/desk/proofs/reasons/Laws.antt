@@ -14,8 +14,8 @@ use Rattle.text.proofs.Decimal.{digits-at-most}
 use Rattle.node.specs.declared.Ground.{Ground}
 use Rattle.node.specs.declared.Rule.{Rule}
 use Rattle.node.specs.declared.Rule.the-variants.{RequestMissing, NoMajority, OwnLower, Repeating, AtTop, NotDue, NewSent}
-use Rattle.machine.specs.reports.Reports.{untold}
-use Rattle.machine.specs.declared.Told.{Told}
+use Rattle.machine.specs.reports.Reports.{noNodeReport}
+use Rattle.machine.specs.declared.NodeReport.{NodeReport}
 use Rattle.desk.specs.reasons.Reasons.{ruleText, reasonLine, reason, reasonOf}
 use Rattle.desk.specs.reasons.Inner.{ruleField}
 
@@ -64,27 +64,28 @@ line-put n j g {l} h t1 t2 t3 t4 t5 t6 t7 =
     finish-by (10 ∷ []) (step (decimal (g .missing)) (10 ∷ []) q5 t6) t7
 
 -- a node that reports, and one that doesn't
-pub reason-some : (n j : ℕ) (t : Told) → t .live ≡ true → reasonLine n j (t .ground) ≡ reason n j t
+pub reason-some : (n j : ℕ) (t : NodeReport) → t .live ≡ true → reasonLine n j (t .ground) ≡ reason n j t
 unfolding reason
 reason-some n j t e = sym (hit _ _ _ e)
 
-pub reason-none : (n j : ℕ) (t : Told) → t .live ≡ false → reason n j t ≡ []
+pub reason-none : (n j : ℕ) (t : NodeReport) → t .live ≡ false → reason n j t ≡ []
 unfolding reason
 reason-none n j t e = skip _ _ _ _ e refl
 
 -- the line of a node: none of 0, and none from 33 up where there are 32 reports
-pub reason-zero : (j n : ℕ) (ts : List Told) → j ≡ 0 → reasonOf j n ts ≡ []
+pub reason-zero : (j n : ℕ) (ts : List NodeReport) → j ≡ 0 → reasonOf j n ts ≡ []
 unfolding reasonOf
 reason-zero zero n ts h = refl
 reason-zero (suc i) n ts h = absurd (omega arith)
 
-pub reason-at : (j n : ℕ) (ts : List Told) → 0 < j → reason n j (getD ts (j - 1) untold) ≡ reasonOf j n ts
+pub reason-at : (j n : ℕ) (ts : List NodeReport) → 0 < j → reason n j (getD ts (j - 1) noNodeReport) ≡ reasonOf j n ts
 unfolding reasonOf
 reason-at zero n ts h = absurd (omega arith)
 reason-at (suc i) n ts h =
     let z : suc i - 1 ≡ i = omega arith in
-    ap (λ (k : ℕ). reason n (suc i) (getD ts k untold)) z
+    ap (λ (k : ℕ). reason n (suc i) (getD ts k noNodeReport)) z
 
-pub reason-out : (j n : ℕ) (ts : List Told) → length ts < j → reasonOf j n ts ≡ []
+pub reason-out : (j n : ℕ) (ts : List NodeReport) → length ts < j → reasonOf j n ts ≡ []
 reason-out j n ts h =
-    sym (reason-at j n ts (omega arith)) ∙ ap (reason n j) (List·getD-eq-default ts untold (omega arith)) ∙ reason-none n j untold refl
+    sym (reason-at j n ts (omega arith)) ∙ ap (reason n j) (List·getD-eq-default ts noNodeReport (omega arith))
+    ∙ reason-none n j noNodeReport refl

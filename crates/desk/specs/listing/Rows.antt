@@ -30,8 +30,8 @@ abbrev pub reportLine : ℕ → ℕ → List ℕ
 reportLine n x = decimal n ++ (32 ∷ (decimal x ++ (10 ∷ [])))
 
 -- the report of a line, or nothing for an accepted one
-unfoldable pub reportOf : ℕ → Answer → List ℕ
-reportOf n a = cond (isDone a) [] (reportLine n (number a))
+unfoldable pub refusalLine : ℕ → Answer → List ℕ
+refusalLine n a = cond (isDone a) [] (reportLine n (number a))
 
 -- the word of a state
 abbrev pub stateText : State → List ℕ

@@ -14,7 +14,7 @@ use Rattle.node.specs.declared.Answer.the-variants.{Done, NoRoom}
 use Rattle.windows.specs.declared.Window.{Window}
 use Rattle.desk.specs.listings.Output.{outputOf, finalArea, roomFor}
 use Rattle.desk.specs.listings.Why.{whyOf, whyRoom}
-use Rattle.desk.specs.declared.Ran.{Ran}
+use Rattle.desk.specs.declared.RunResult.{RunResult}
 use Rattle.desk.specs.declared.Replayed.{Replayed}
 use Rattle.desk.specs.declared.View.{View}
 use Rattle.desk.specs.declared.View.the-variants.{Refusals, Reasons}
@@ -30,32 +30,32 @@ roomOf Refusals n = roomFor n
 roomOf (Reasons j) n = whyRoom n
 
 -- whether lent output is long enough
-abbrev pub hasRoom : View → List ℕ → List ℕ → Bool
-hasRoom v script out = leb (roomOf v (length script)) (length out)
+abbrev pub outputFits : View → List ℕ → List ℕ → Bool
+outputFits v script out = leb (roomOf v (length script)) (length out)
 
 -- the answer to a run
 unfoldable pub runAnswer : View → List ℕ → List ℕ → Answer
-runAnswer v script out = cond (hasRoom v script out) Done NoRoom
+runAnswer v script out = cond (outputFits v script out) Done NoRoom
 
 -- the length of what is printed; 0 after a refusal
 unfoldable pub runLength : View → ℕ → List Window → List ℕ → List ℕ → List ℕ → ℕ
-runLength v D ws script area out = cond (hasRoom v script out) (length (textOf v D ws script area)) 0
+runLength v D ws script area out = cond (outputFits v script out) (length (textOf v D ws script area)) 0
 
 -- the answer with the length
-abbrev pub ranOf : View → ℕ → List Window → List ℕ → List ℕ → List ℕ → Ran
-ranOf v D ws script area out = record { answer = runAnswer v script out; length = runLength v D ws script area out }
+abbrev pub runResultOf : View → ℕ → List Window → List ℕ → List ℕ → List ℕ → RunResult
+runResultOf v D ws script area out = record { answer = runAnswer v script out; length = runLength v D ws script area out }
 
 -- the output: what is printed stands at its start, and every byte behind it is as it was
 unfoldable pub outAfter : View → ℕ → List Window → List ℕ → List ℕ → List ℕ → List ℕ
-outAfter v D ws script area out = cond (hasRoom v script out) (written out 0 (textOf v D ws script area)) out
+outAfter v D ws script area out = cond (outputFits v script out) (written out 0 (textOf v D ws script area)) out
 
 -- the packet area
-unfoldable pub areaAfter : View → ℕ → List Window → List ℕ → List ℕ → List ℕ → List ℕ
-areaAfter v D ws script area out = cond (hasRoom v script out) (finalArea D ws script area) area
+unfoldable pub areaAfterRun : View → ℕ → List Window → List ℕ → List ℕ → List ℕ → List ℕ
+areaAfterRun v D ws script area out = cond (outputFits v script out) (finalArea D ws script area) area
 
 -- the number that the length is written to: as it was after a refusal
 unfoldable pub lengthAfter : View → ℕ → List Window → List ℕ → List ℕ → List ℕ → ℕ → ℕ
-lengthAfter v D ws script area out n = cond (hasRoom v script out) (length (textOf v D ws script area)) n
+lengthAfter v D ws script area out n = cond (outputFits v script out) (length (textOf v D ws script area)) n
 
 -- the number that the call for C returns, and the one that it writes
 abbrev pub replayedOf : View → ℕ → List Window → List ℕ → List ℕ → List ℕ → ℕ → Replayed

@@ -16,69 +16,70 @@ use Rattle.site.specs.Load.{loadAnswer}
 use Rattle.site.specs.declared.Event.{Event}
 use Rattle.site.specs.Model.{Member}
 use Rattle.machine.specs.Layout.{Store, siteIn}
-use Rattle.machine.specs.reports.Reports.{untold, toldIn}
-use Rattle.machine.specs.declared.Told.{Told}
-use Rattle.machine.specs.hours.Calls.{TimedWorld}
+use Rattle.machine.specs.reports.Reports.{noNodeReport, nodeReportIn}
+use Rattle.machine.specs.declared.NodeReport.{NodeReport}
+use Rattle.machine.specs.hours.Calls.{TimedState}
 use Rattle.machine.specs.hours.Stored.{timedIn}
 use Rattle.machine.specs.declared.Day.{Day}
-use Rattle.machine.specs.declared.Turned.{Turned}
+use Rattle.machine.specs.declared.DayAnswer.{DayAnswer}
 use Rattle.script.specs.declared.Parsed.{Parsed}
 use Rattle.script.specs.declared.Parsed.the-variants.{Malformed, Good}
 use Rattle.script.specs.load.Opening.{Opening}
-use Rattle.script.specs.declared.Opened.{Opened}
-use Rattle.desk.specs.listing.Rows.{firstHead, reportOf, rowsText}
+use Rattle.script.specs.declared.ScriptHead.{ScriptHead}
+use Rattle.desk.specs.listing.Rows.{firstHead, refusalLine, rowsText}
 use Rattle.desk.specs.reasons.Reasons.{reason}
-use Rattle.desk.specs.listings.Output.{secondHead, topScript, eventsIn, runBy, lineAnswer, lineAfter, reports, loadedWorld, finished}
+use Rattle.desk.specs.listings.Output.{secondHead, topScript, eventsIn, runBy, lineAnswer, lineAfter, refusedLines, loadedState}
+use Rattle.desk.specs.listings.Output.{finished}
 use Rattle.desk.specs.listings.Output.{dayFits}
-use Rattle.desk.specs.listings.Why.{told, refusalPart, headPart}
-use Rattle.desk.specs.declared.Taken.{Taken}
+use Rattle.desk.specs.listings.Why.{reasonLines, refusalPart, headPart}
+use Rattle.desk.specs.declared.LineResult.{LineResult}
 use Rattle.desk.specs.declared.View.{View}
 use Rattle.desk.specs.declared.View.the-variants.{Refusals, Reasons}
 
 -- a site in storage and its day, with the area
-abbrev pub worldIn : Store → Day → List ℕ → TimedWorld
-worldIn s d a = record { timed = timedIn s d; area = a }
+abbrev pub runStateIn : Store → Day → List ℕ → TimedState
+runStateIn s d a = record { timed = timedIn s d; area = a }
 
 -- the answer to a line with the day after it
-abbrev pub lineTurned : List Window → TimedWorld → Parsed → Turned
+abbrev pub lineTurned : List Window → TimedState → Parsed → DayAnswer
 lineTurned ws w p = record { answer = lineAnswer ws w p; day = lineAfter ws w p .timed .day }
 
 -- what is told of an event of a site in storage, were it the next one: where the reasons of a node are asked for, what the node reports
-abbrev pub eventTold : View → Store → List ℕ → Event → Told
-eventTold Refusals s a e = untold
-eventTold (Reasons j) s a e = toldIn s a e j
+abbrev pub eventNodeReport : View → Store → List ℕ → Event → NodeReport
+eventNodeReport Refusals s a e = noNodeReport
+eventNodeReport (Reasons j) s a e = nodeReportIn s a e j
 
 -- the same of a line: of a malformed one nothing
-abbrev pub lineTold : View → Store → List ℕ → Parsed → Told
-lineTold v s a Malformed = untold
-lineTold v s a (Good e) = eventTold v s a e
+abbrev pub lineNodeReport : View → Store → List ℕ → Parsed → NodeReport
+lineNodeReport v s a Malformed = noNodeReport
+lineNodeReport v s a (Good e) = eventNodeReport v s a e
 
 -- what a line gives
-abbrev pub lineTaken : View → List Window → Store → Day → List ℕ → Parsed → Taken
-lineTaken v ws s d a p = record { turned = lineTurned ws (worldIn s d a) p; told = lineTold v s a p }
+abbrev pub lineTaken : View → List Window → Store → Day → List ℕ → Parsed → LineResult
+lineTaken v ws s d a p = record { turned = lineTurned ws (runStateIn s d a) p; told = lineNodeReport v s a p }
 
 -- what is printed of a line
-abbrev pub lineText : View → ℕ → Answer → Told → List ℕ
-lineText Refusals n a t = reportOf n a
+abbrev pub lineText : View → ℕ → Answer → NodeReport → List ℕ
+lineText Refusals n a t = refusalLine n a
 lineText (Reasons j) n a t = reason n j t
 
 -- of all event lines
-abbrev pub linesText : View → List Window → TimedWorld → ℕ → List (List ℕ) → List ℕ
-linesText Refusals ws w n ls = reports ws w n ls
-linesText (Reasons j) ws w n ls = told j ws w n ls
+abbrev pub linesText : View → List Window → TimedState → ℕ → List (List ℕ) → List ℕ
+linesText Refusals ws w n ls = refusedLines ws w n ls
+linesText (Reasons j) ws w n ls = reasonLines j ws w n ls
 
--- the event lines ls were run from a world: what is printed of them stands at a place, and site and area are those of the run
-pub record Runs (v : View) (ws : List Window) (w : TimedWorld) (n : ℕ) (ls : List (List ℕ)) (out : List ℕ) (at to : ℕ) (kept : Store)
+-- the event lines ls were run from a state: what is printed of them stands at a place, and site and area are those of the run
+pub record Runs (v : View) (ws : List Window) (w : TimedState) (n : ℕ) (ls : List (List ℕ)) (out : List ℕ) (at to : ℕ) (kept : Store)
     (printed left : List ℕ) : Type 0 where
   pub site : siteIn kept ≡ runBy ws w (eventsIn ls) .timed .site
   pub area : left ≡ runBy ws w (eventsIn ls) .area
   pub put : Put out at (linesText v ws w n ls) to printed
 
 -- settings and table that were read, and the event lines behind them
-abbrev pub openingOf : Opened → Opening
+abbrev pub openingOf : ScriptHead → Opening
 openingOf o = record { config = o .config; table = o .table }
 
-abbrev pub linesOf : List ℕ → Opened → List (List ℕ)
+abbrev pub linesOf : List ℕ → ScriptHead → List (List ℕ)
 linesOf script o = split 10 (drop (o .at) script)
 
 -- whether a view has a head: the reasons of a node are a part behind it
@@ -88,7 +89,7 @@ hasHead (Reasons j) = eqb j 0
 
 -- a script that is refused before its events
 abbrev pub refusalText : View → ℕ → ℕ → Answer → List ℕ
-refusalText Refusals split n a = firstHead split ++ reportOf n a
+refusalText Refusals split n a = firstHead split ++ refusalLine n a
 refusalText (Reasons j) split n a = refusalPart j split n a
 
 -- before the event lines, and behind them
@@ -104,14 +105,14 @@ restText (Reasons j) nodes slots ms = []
 abbrev pub ranText : View → ℕ → List Window → Opening → List ℕ → List (List ℕ) → List ℕ
 ranText v D ws o area ls =
     headText v (o .config .split)
-    ++ (linesText v ws (loadedWorld D ws o area) (5 + o .config .nodes) ls
+    ++ (linesText v ws (loadedState D ws o area) (5 + o .config .nodes) ls
     ++ restText v (o .config .nodes) (o .config .slots) (finished D ws o area ls .timed .site .members))
 
 abbrev pub openText : View → ℕ → List Window → Opening → List ℕ → List (List ℕ) → List ℕ
 openText v D ws o area ls = cond (dayFits D ws o) (ranText v D ws o area ls) (refusalText v (o .config .split) 0 BadWindows)
 
 -- a script that opens, with figures within their ranges, a table that loads, and room for what is printed
-pub record Fits (v : View) (D : ℕ) (ws : List Window) (script : List ℕ) (o : Opened) (area out : List ℕ) : Type 0 where
+pub record Fits (v : View) (D : ℕ) (ws : List Window) (script : List ℕ) (o : ScriptHead) (area out : List ℕ) : Type 0 where
   pub nodes : o .config .nodes ≤ 32
   pub slots : o .config .slots ≤ 80
   pub loads : loadAnswer (o .config) (o .table) ≡ Done

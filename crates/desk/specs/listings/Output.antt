@@ -15,12 +15,12 @@ use Rattle.site.specs.declared.Event.{Event}
 use Rattle.windows.specs.Windows.{listOk}
 use Rattle.windows.specs.declared.Window.{Window}
 use Rattle.machine.specs.hours.Hours.{loadedTimed, timedAnswer}
-use Rattle.machine.specs.hours.Calls.{Call, TimedWorld, afterCall, runCalls}
+use Rattle.machine.specs.hours.Calls.{Call, TimedState, afterCall, runCalls}
 use Rattle.script.specs.events.Events.{eventOf}
 use Rattle.script.specs.declared.Parsed.{Parsed}
 use Rattle.script.specs.declared.Parsed.the-variants.{Malformed, Good}
 use Rattle.script.specs.load.Opening.{Reading, refused, got, Opening, opening, configRead}
-use Rattle.desk.specs.listing.Rows.{firstHead, reportOf, rowsText}
+use Rattle.desk.specs.listing.Rows.{firstHead, refusalLine, rowsText}
 
 -- the head over the rows
 abbrev pub secondHead : List ℕ
@@ -48,37 +48,38 @@ callOf ws e = record { event = e; windows = ws }
 abbrev pub callsOf : List Window → List Event → List Call
 callsOf ws es = map (callOf ws) es
 
--- the world after events
-abbrev pub runBy : List Window → TimedWorld → List Event → TimedWorld
+-- the state after events
+abbrev pub runBy : List Window → TimedState → List Event → TimedState
 runBy ws w es = runCalls w (callsOf ws es)
 
 -- the answer to a line
-abbrev pub lineAnswer : List Window → TimedWorld → Parsed → Answer
+abbrev pub lineAnswer : List Window → TimedState → Parsed → Answer
 lineAnswer ws w Malformed = OutOfRange
 lineAnswer ws w (Good e) = timedAnswer (w .timed) (w .area) ws e
 
--- the world after a line
-abbrev pub lineAfter : List Window → TimedWorld → Parsed → TimedWorld
+-- the state after a line
+abbrev pub lineAfter : List Window → TimedState → Parsed → TimedState
 lineAfter ws w Malformed = w
 lineAfter ws w (Good e) = afterCall w (callOf ws e)
 
 -- behind the last byte 10: nothing, or a line without it, refused as 2
 abbrev pub lastReport : ℕ → List ℕ → List ℕ
 lastReport n [] = []
-lastReport n (b ∷ l) = reportOf n OutOfRange
+lastReport n (b ∷ l) = refusalLine n OutOfRange
 
 -- the refused lines with their numbers, the first of which is n
-unfoldable pub reports : List Window → TimedWorld → ℕ → List (List ℕ) → List ℕ
-reports ws w n [] = []
-reports ws w n (l ∷ []) = lastReport n l
-reports ws w n (l ∷ m ∷ ls) = reportOf n (lineAnswer ws w (eventOf l)) ++ reports ws (lineAfter ws w (eventOf l)) (n + 1) (m ∷ ls)
+unfoldable pub refusedLines : List Window → TimedState → ℕ → List (List ℕ) → List ℕ
+refusedLines ws w n [] = []
+refusedLines ws w n (l ∷ []) = lastReport n l
+refusedLines ws w n (l ∷ m ∷ ls) = refusalLine n (lineAnswer ws w (eventOf l))
+    ++ refusedLines ws (lineAfter ws w (eventOf l)) (n + 1) (m ∷ ls)
 
--- the world in which the events begin, with a day of D epochs, and in which they end: the fold of the events over the loaded site
-abbrev pub loadedWorld : ℕ → List Window → Opening → List ℕ → TimedWorld
-loadedWorld D ws o area = record { timed = loadedTimed (o .config) (o .table) D ws; area = area }
+-- the state in which the events begin, with a day of D epochs, and in which they end: the fold of the events over the loaded site
+abbrev pub loadedState : ℕ → List Window → Opening → List ℕ → TimedState
+loadedState D ws o area = record { timed = loadedTimed (o .config) (o .table) D ws; area = area }
 
-abbrev pub finished : ℕ → List Window → Opening → List ℕ → List (List ℕ) → TimedWorld
-finished D ws o area ls = runBy ws (loadedWorld D ws o area) (eventsIn ls)
+abbrev pub finished : ℕ → List Window → Opening → List ℕ → List (List ℕ) → TimedState
+finished D ws o area ls = runBy ws (loadedState D ws o area) (eventsIn ls)
 
 -- whether the list of windows and the day keep the rules
 abbrev pub dayFits : ℕ → List Window → Opening → Bool
@@ -87,19 +88,19 @@ dayFits D ws o = listOk (o .config .nodes) D ws
 -- what is printed under the first head for a script that is run: the refused event lines, the second head, and the rows
 abbrev pub ranText : ℕ → List Window → Opening → List ℕ → List (List ℕ) → List ℕ
 ranText D ws o area ls =
-    reports ws (loadedWorld D ws o area) (5 + o .config .nodes) ls
+    refusedLines ws (loadedState D ws o area) (5 + o .config .nodes) ls
     ++ (secondHead ++ rowsText (o .config .nodes) 0 (finished D ws o area ls .timed .site .members) (o .config .slots))
 
 -- for a script that opens: a list or a day that breaks the rules is refused as 16 with line 0, before the first event
 abbrev pub listed : ℕ → List Window → Opening → List ℕ → List (List ℕ) → List ℕ
-listed D ws o area ls = cond (dayFits D ws o) (ranText D ws o area ls) (reportOf 0 BadWindows)
+listed D ws o area ls = cond (dayFits D ws o) (ranText D ws o area ls) (refusalLine 0 BadWindows)
 
 abbrev pub leftArea : ℕ → List Window → Opening → List ℕ → List (List ℕ) → List ℕ
 leftArea D ws o area ls = cond (dayFits D ws o) (finished D ws o area ls .area) area
 
 -- what is printed under the first head: where a line before the events is refused, its refusal alone
 abbrev pub body : ℕ → List Window → List ℕ → Reading Opening → List ℕ
-body D ws area (refused n a) = reportOf n a
+body D ws area (refused n a) = refusalLine n a
 body D ws area (got o ls) = listed D ws o area ls
 
 abbrev pub bodyArea : ℕ → List Window → List ℕ → Reading Opening → List ℕ
@@ -117,7 +118,7 @@ splitTold script area = cond (unfit script area) 0 (configRead (split 10 script)
 -- what is printed
 unfoldable pub outputOf : ℕ → List Window → List ℕ → List ℕ → List ℕ
 outputOf D ws script area = firstHead (splitTold script area)
-    ++ cond (unfit script area) (reportOf 0 NoRoom) (body D ws area (opening (split 10 script)))
+    ++ cond (unfit script area) (refusalLine 0 NoRoom) (body D ws area (opening (split 10 script)))
 
 -- what the packet area holds then
 unfoldable pub finalArea : ℕ → List Window → List ℕ → List ℕ → List ℕ

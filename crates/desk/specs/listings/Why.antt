@@ -8,30 +8,30 @@ use Rattle.text.specs.Read.{split}
 use Rattle.node.specs.declared.Answer.{Answer}
 use Rattle.node.specs.declared.Answer.the-variants.{NoRoom, BadWindows}
 use Rattle.windows.specs.declared.Window.{Window}
-use Rattle.machine.specs.hours.Calls.{TimedWorld}
+use Rattle.machine.specs.hours.Calls.{TimedState}
 use Rattle.script.specs.events.Events.{eventOf}
 use Rattle.script.specs.load.Opening.{Reading, refused, got, Opening, opening}
-use Rattle.desk.specs.listing.Rows.{firstHead, reportOf}
+use Rattle.desk.specs.listing.Rows.{firstHead, refusalLine}
 use Rattle.desk.specs.reasons.Reasons.{reasonOf, lineReport}
-use Rattle.desk.specs.listings.Output.{topScript, lineAfter, loadedWorld, dayFits, unfit, splitTold}
+use Rattle.desk.specs.listings.Output.{topScript, lineAfter, loadedState, dayFits, unfit, splitTold}
 
 -- the head over the reasons
 abbrev pub reasonsHead : List ℕ
 reasonsHead = ascii "line node rule missing\n"
 
 -- the reasons of node j at all lines, the first of which is n; what stands behind the last byte 10 is no line that is run
-unfoldable pub told : ℕ → List Window → TimedWorld → ℕ → List (List ℕ) → List ℕ
-told j ws w n [] = []
-told j ws w n (l ∷ []) = []
-told j ws w n (l ∷ m ∷ ls) =
+unfoldable pub reasonLines : ℕ → List Window → TimedState → ℕ → List (List ℕ) → List ℕ
+reasonLines j ws w n [] = []
+reasonLines j ws w n (l ∷ []) = []
+reasonLines j ws w n (l ∷ m ∷ ls) =
     reasonOf j n (lineReport (w .timed .site) (w .area) (eventOf l) .told)
-    ++ told j ws (lineAfter ws w (eventOf l)) (n + 1) (m ∷ ls)
+    ++ reasonLines j ws (lineAfter ws w (eventOf l)) (n + 1) (m ∷ ls)
 
 -- What is printed comes in parts, one behind another: part 0 is the head, and part j the reasons of node j.
 -- Of a script that is refused before its events part 0 is what `replay` prints, the head over the refused lines and one line; the others
 -- are empty
 abbrev pub refusalPart : ℕ → ℕ → ℕ → Answer → List ℕ
-refusalPart zero split n a = firstHead split ++ reportOf n a
+refusalPart zero split n a = firstHead split ++ refusalLine n a
 refusalPart (suc i) split n a = []
 
 abbrev pub headPart : ℕ → List ℕ
@@ -42,7 +42,8 @@ headPart (suc i) = []
 abbrev pub whyBody : ℕ → ℕ → List Window → ℕ → List ℕ → Reading Opening → List ℕ
 whyBody j D ws split area (refused n a) = refusalPart j split n a
 whyBody j D ws split area (got o ls) =
-    cond (dayFits D ws o) (headPart j ++ told j ws (loadedWorld D ws o area) (5 + o .config .nodes) ls) (refusalPart j split 0 BadWindows)
+    cond (dayFits D ws o) (headPart j ++ reasonLines j ws (loadedState D ws o area) (5 + o .config .nodes) ls)
+    (refusalPart j split 0 BadWindows)
 
 -- part j of what is printed
 unfoldable pub whyOf : ℕ → ℕ → List Window → List ℕ → List ℕ → List ℕ

@@ -10,9 +10,9 @@ use Rattle.node.specs.declared.Ground.{Ground}
 use Rattle.node.specs.declared.Rule.{Rule}
 use Rattle.node.specs.declared.Rule.the-variants.{RequestMissing, NoMajority, OwnLower, Repeating, AtTop, NotDue, NewSent}
 use Rattle.site.specs.Model.{Site}
-use Rattle.machine.specs.reports.Reports.{untold, noReport, reportOf, isReported}
+use Rattle.machine.specs.reports.Reports.{noNodeReport, noReport, reportOf, isReported}
 use Rattle.machine.specs.declared.Report.{Report}
-use Rattle.machine.specs.declared.Told.{Told}
+use Rattle.machine.specs.declared.NodeReport.{NodeReport}
 use Rattle.script.specs.declared.Parsed.{Parsed}
 use Rattle.script.specs.declared.Parsed.the-variants.{Malformed, Good}
 
@@ -31,13 +31,13 @@ abbrev pub reasonLine : ℕ → ℕ → Ground → List ℕ
 reasonLine n j g = decimal n ++ (32 ∷ (decimal j ++ (32 ∷ (ruleText (g .rule) ++ (32 ∷ (decimal (g .missing) ++ (10 ∷ [])))))))
 
 -- of a node that reports nothing no line
-unfoldable pub reason : ℕ → ℕ → Told → List ℕ
+unfoldable pub reason : ℕ → ℕ → NodeReport → List ℕ
 reason n j t = cond (t .live) (reasonLine n j (t .ground)) []
 
 -- the line of node j among the reports of all; 0 is no node
-unfoldable pub reasonOf : ℕ → ℕ → List Told → List ℕ
+unfoldable pub reasonOf : ℕ → ℕ → List NodeReport → List ℕ
 reasonOf zero n ts = []
-reasonOf (suc i) n ts = reason n (suc i) (getD ts i untold)
+reasonOf (suc i) n ts = reason n (suc i) (getD ts i noNodeReport)
 
 -- what a line of a script reports: a malformed one nothing
 abbrev pub lineReport : Site → List ℕ → Parsed → Report

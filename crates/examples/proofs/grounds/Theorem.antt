@@ -23,7 +23,7 @@ use Rattle.node.specs.declared.Rule.the-variants.{RequestMissing, NoMajority, O
 use Rattle.node.proofs.Laws.{closes-so}
 use Rattle.node.proofs.Made as made
 use Rattle.node.proofs.Verdicts.{incomplete-repeats, level-repeats, repeats-tests, judged, complete-so, verdict-so, rule-so}
-use Rattle.examples.specs.grounds.Rules.{informed, decides, branch, isSilent, Exact, Sending, Missing, Grounded}
+use Rattle.examples.specs.grounds.Rules.{informed, decides, branch, isSilent, Exact, Sending, Missing, GroundsRight}
 use Rattle.examples.proofs.grounds.Outcomes.{ruled, holds, met, alone}
 
 -- the verdict, by the tests behind it
@@ -159,5 +159,5 @@ module _ (n : Node) where
         small = first-within p 32 0;
       }
 
-pub grounded : Grounded
-grounded = record { exact = exact; sending = sending-so; missing = missing-so; split = never-few }
+pub grounds-right : GroundsRight
+grounds-right = record { exact = exact; sending = sending-so; missing = missing-so; split = never-few }

@@ -32,7 +32,7 @@ use Rattle.site.specs.Members.{setupOf}
 use Rattle.site.specs.Load.{loadedSite, loadedMember}
 use Rattle.site.specs.Answers.{areaSize, siteSend, answerPart, siteHear, siteClose, siteTake, siteEnd, answerOf}
 use Rattle.site.specs.Steps.{sentSite, sentArea, heardSite, closedSite, takenSite, endedSite, siteAfter, areaAfter}
-use Rattle.site.specs.Run.{World}
+use Rattle.site.specs.Run.{RunState}
 use Rattle.traces.specs.Reached.{begin}
 use Rattle.boxes.specs.field.Field.{rowOf, begunField}
 use Rattle.boxes.specs.field.Past.{noBoxPast}
@@ -66,7 +66,7 @@ case-begins =
 unfoldable pub area : List ℕ
 area = replicate areaSize 0
 
-unfoldable pub site : World
+unfoldable pub site : RunState
 site = begin settings caseTable area
 
 -- the answers, and what is determined: computed, so the text of every definition on the way is needed

@@ -33,7 +33,7 @@ use Rattle.traces.proofs.Members.{live-up}
 use Rattle.agreement.specs.Demand.{owner}
 use Rattle.host.specs.Calls.{slotsSize, ownSlots}
 use Rattle.host.proofs.Slots.{slots-are}
-use Rattle.boxes.specs.field.Field.{Box, Field, Act, zeros, reading, slotIn, ownIn, live, fieldRun, begunField}
+use Rattle.boxes.specs.field.Field.{Box, Field, Act, zeros, reading, slotIn, boxSlots, live, fieldRun, begunField}
 use Rattle.boxes.specs.field.Claim.{events}
 use Rattle.boxes.proofs.field.Together.{at, fit}
 use Rattle.boxes.proofs.field.Reach.{Reached, reaches}
@@ -167,7 +167,7 @@ gets j k l e h o = apart-holds .same-slots settings caseTable full case-begins s
 
 -- the three numbers, as its node has them
 own-is : (j k : ℕ) → 1 ≤ j → atEnd .clock j ≡ 3 → isLive (memberAt (siteBy acts) j) ≡ true → owner (memberAt (siteBy acts) j .node) k ≡ j
-    → ownIn (boxNow atEnd j) ≡ ownSlots (memberAt (siteBy acts) j .node)
+    → boxSlots (boxNow atEnd j) ≡ ownSlots (memberAt (siteBy acts) j .node)
 unfolding ownSlots
 own-is j k l e h o =
     slots-are (boxNow atEnd j .area) (zeros slotsSize) (gets j k l e h o .answer)

@@ -80,7 +80,7 @@ pub record Missing (n : Node) : Type 0 where
   pub small : missingOf n ≤ 32
 
 -- the theorem's statement, for every node: proved in proofs/Theorem.antt
-pub record Grounded : Type 0 where
+pub record GroundsRight : Type 0 where
   pub exact : (n : Node) → Exact n
   pub sending : (n : Node) → Sending n
   pub missing : (n : Node) → n .round .merged < 2 ^ 32 → Missing n

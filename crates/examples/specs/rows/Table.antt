@@ -77,7 +77,7 @@ met w =
       request = 2;
       flags = 31;
       round = lapsed;
-      epoch = record { counts = replicate 32 0; met = w; place = 0; updated = false; determined = free };
+      epoch = record { counters = replicate 32 0; interactions = w; place = 0; updated = false; determined = free };
       phase = Distribution false;
     }
 
@@ -92,7 +92,7 @@ counting heard =
       request = 2;
       flags = 15;
       round = lapsed;
-      epoch = record { counts = 0 ∷ 1 ∷ 2 ∷ 3 ∷ replicate 28 0; met = 15; place = 2; updated = false; determined = free };
+      epoch = record { counters = 0 ∷ 1 ∷ 2 ∷ 3 ∷ replicate 28 0; interactions = 15; place = 2; updated = false; determined = free };
       phase = Distribution false;
     }
 
@@ -159,9 +159,9 @@ allOfIt n =
     n .setup .node ∷ n .setup .config .nodes ∷ n .setup .config .slots ∷ n .setup .config .rounds ∷ n .setup .config .«min_heard»
     ∷ n .setup .config .split ∷ n .version ∷ n .demand ∷ n
     .request ∷ n .flags ∷ phaseNumber (n .phase)
-    ∷ n .round .merged ∷ n .round .lowest ∷ n .round .highest ∷ n .round .heard ∷ n .epoch .met ∷ n .epoch .place ∷ digit
+    ∷ n .round .merged ∷ n .round .lowest ∷ n .round .highest ∷ n .round .heard ∷ n .epoch .interactions ∷ n .epoch .place ∷ digit
     (n .epoch .updated)
-    ∷ (n .round .known ++ (n .epoch .counts ++ (ownersOf (n .schedule) ++ ownersOf (n .epoch .determined))))
+    ∷ (n .round .known ++ (n .epoch .counters ++ (ownersOf (n .schedule) ++ ownersOf (n .epoch .determined))))
 
 -- version, request and the first four owners
 abbrev pub heldThen : Node → List ℕ
@@ -178,7 +178,7 @@ merging =
       request = 2;
       flags = 3;
       round = record { merged = 3; known = asking (2 ∷ 2 ∷ []); lowest = 1; highest = 1; heard = 2 };
-      epoch = record { counts = replicate 32 0; met = 2; place = 0; updated = false; determined = free };
+      epoch = record { counters = replicate 32 0; interactions = 2; place = 0; updated = false; determined = free };
       phase = Negotiation;
     }
 
@@ -249,10 +249,10 @@ table =
     ∷ []
 
 -- a row that holds
-abbrev pub holds : Row → Bool
-holds r = same (r .gives) (r .says)
+abbrev pub rowHolds : Row → Bool
+rowHolds r = same (r .gives) (r .says)
 
 -- every row holds
 unfoldable pub allHold : List Row → Bool
 allHold [] = true
-allHold (r ∷ rs) = holds r && allHold rs
+allHold (r ∷ rs) = rowHolds r && allHold rs

@@ -36,15 +36,15 @@ abbrev pub full : ℕ → List ℕ
 full j = replicate 1000 255
 
 -- who determined what: number, version, nodes, and the requests of the three
-abbrev pub shown : BoxDetermination → List ℕ
-shown d = d .node ∷ d .version ∷ d .nodes ∷ take 3 (d .requests)
+abbrev pub shownDetermination : BoxDetermination → List ℕ
+shownDetermination d = d .node ∷ d .version ∷ d .nodes ∷ take 3 (d .requests)
 
-abbrev pub determined : List (List ℕ)
-determined = map shown (boxDeterminations settings caseTable full acts)
+abbrev pub determinedThere : List (List ℕ)
+determinedThere = map shownDetermination (boxDeterminations settings caseTable full acts)
 
 -- the boxes begin; the events are answered as the script's listing has it, the first taking refused as 10; and box 1 alone determines,
 -- version 2 from all three requests
 pub record WholeCase : Type 0 where
   pub begins : Begins settings caseTable full
   pub answers : map number (fieldAnswers (begunField settings caseTable full) acts) ≡ 0 ∷ 0 ∷ 0 ∷ 0 ∷ 0 ∷ 10 ∷ 0 ∷ 0 ∷ []
-  pub determines : determined ≡ (1 ∷ 2 ∷ 7 ∷ 2 ∷ 2 ∷ 2 ∷ []) ∷ []
+  pub determines : determinedThere ≡ (1 ∷ 2 ∷ 7 ∷ 2 ∷ 2 ∷ 2 ∷ []) ∷ []

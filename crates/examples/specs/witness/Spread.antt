@@ -6,7 +6,7 @@ use mathlib.Core.List.{List, [], _∷_, _++_, map}
 use Prim.Native.Nat.{_*_}
 use Rattle.site.specs.declared.Event.{Event}
 use Rattle.site.specs.declared.Event.the-variants.{Send, Hear, Take, Want, Crash, Restart}
-use Rattle.boxes.specs.field.Field.{ownIn}
+use Rattle.boxes.specs.field.Field.{boxSlots}
 use Rattle.apart.specs.Apart.{Step, tick, act, Apart, boxNow, apartRun, sorted, begunApart}
 use Rattle.apart.specs.Determined.{Determines}
 use Rattle.apart.specs.Time.{AllOnTime}
@@ -46,8 +46,8 @@ pub record SpreadCase : Type 0 where
   pub clocks : map (halfWay .clock) (1 ∷ 2 ∷ 3 ∷ []) ≡ 3 ∷ 1 ∷ 1 ∷ []
   pub clocks-then : map (atEnd .clock) (1 ∷ 2 ∷ 3 ∷ []) ≡ 3 ∷ 3 ∷ 3 ∷ []
   -- at the end `hydra_slots` gives slots 1 and 4 to box 1, and slot 2 to box 2
-  pub own : ownIn (boxNow atEnd 1) ≡ 9 ∷ 0 ∷ 2 ∷ []
-  pub own-too : ownIn (boxNow atEnd 2) ≡ 2 ∷ 0 ∷ 1 ∷ []
+  pub own : boxSlots (boxNow atEnd 1) ≡ 9 ∷ 0 ∷ 2 ∷ []
+  pub own-too : boxSlots (boxNow atEnd 2) ≡ 2 ∷ 0 ∷ 1 ∷ []
   pub gets : Gets atEnd 1 3
   -- boxes 1 and 2 each use a slot, the one by what it read and the other by `hydra_slots`
   pub uses : Uses settings caseTable full spread 1 0

@@ -9,22 +9,22 @@ use Rattle.node.specs.Answers.{isDone}
 use Rattle.node.specs.declared.Answer.{Answer}
 use Rattle.node.specs.declared.Answer.the-variants.{Done, NoRoom, BadWindows}
 use Rattle.site.specs.Answers.{answerOf}
-use Rattle.site.specs.Members.{channelOf}
+use Rattle.site.specs.Members.{headerOf}
 use Rattle.site.specs.Events.{isEnd}
-use Rattle.site.specs.declared.Channel.{Channel}
+use Rattle.site.specs.declared.SiteHeader.{SiteHeader}
 use Rattle.site.specs.declared.Event.{Event}
 use Rattle.site.specs.declared.Event.the-variants.{End}
 use Rattle.windows.specs.Windows.{listOk}
 use Rattle.windows.specs.declared.Window.{Window}
 use Rattle.machine.specs.Layout.{Store, store, tooShort, siteIn}
-use Rattle.machine.specs.Loading.{channelRead}
+use Rattle.machine.specs.Loading.{headerRead}
 use Rattle.machine.specs.steps.After.{nextStore, storageAnswer, storeAfter, areaWith}
 use Rattle.machine.specs.hours.Hours.{Timed, answerBy, inLastRound, nextDay, timedAnswer, nextTimed, timedAfter}
-use Rattle.machine.specs.hours.Stored.{timedIn, storedAnswer, storedDay, turned, begunStore, timedStore, answeredBy, dayBy}
+use Rattle.machine.specs.hours.Stored.{timedIn, storedAnswer, storedDay, dayAnswer, begunStore, timedStore, answeredBy, dayBy}
 use Rattle.machine.specs.hours.Stored.{turnedBy, storeBy}
-use Rattle.machine.specs.hours.Inner.{dayBegun, verdict}
+use Rattle.machine.specs.hours.Inner.{dayBegun, listVerdict}
 use Rattle.machine.specs.declared.Day.{Day}
-use Rattle.machine.proofs.Whole.{as-channel, long-enough}
+use Rattle.machine.proofs.Whole.{as-header, long-enough}
 use Rattle.machine.proofs.hours.Stored.{Long, TurnIs, end-with, timed-site}
 
 module _ (ok : Bool) (s : Store) (d : Day) (l : List ℕ) (ws : List Window) where
@@ -99,13 +99,13 @@ module _ (ok : Bool) (s : Store) (d : Day) (l : List ℕ) (ws : List Window) whe
             let r : storageAnswer s l End ≡ answerOf (siteIn s) l End = skip _ _ _ _ t refl in
             skip _ _ _ _ t (hit _ _ _ (ap isDone (sym r ∙ sym h) ∙ done))
 
-    pub accepted-channel : {k : Channel} → k ≡ channelRead s → k ≡ channelOf (siteIn s)
+    pub accepted-header : {k : SiteHeader} → k ≡ headerRead s → k ≡ headerOf (siteIn s)
     unfolding storageAnswer
-    accepted-channel {k} q = go (tooShort s) refl
+    accepted-header {k} q = go (tooShort s) refl
       where
-        go : (b : Bool) → tooShort s ≡ b → k ≡ channelOf (siteIn s)
+        go : (b : Bool) → tooShort s ≡ b → k ≡ headerOf (siteIn s)
         go true t = never (sym (ap isDone (sym (hit (tooShort s) NoRoom (answerOf (siteIn s) l End) t) ∙ sym h) ∙ done))
-        go false t = let m = long-enough s t in q ∙ as-channel s (m .0) (m .1)
+        go false t = let m = long-enough s t in q ∙ as-header s (m .0) (m .1)
 
     pub refused-list : ok ≡ false → TestedIs End BadWindows d (s .words) (s .bytes) l
     refused-list f = refused BadWindows (accepted ∙ skip _ _ _ _ f refl) refl
@@ -125,7 +125,7 @@ module _ (ok : Bool) (s : Store) (d : Day) (l : List ℕ) (ws : List Window) whe
         )
 
 -- where it was found to be what its test says
-module _ (s : Store) (d : Day) (l : List ℕ) (ws : List Window) (e : Event) {ok : Bool} (h : ok ≡ verdict s d ws e) where
+module _ (s : Store) (d : Day) (l : List ℕ) (ws : List Window) (e : Event) {ok : Bool} (h : ok ≡ listVerdict s d ws e) where
   abbrev t : Timed
   t = timedIn s d
 
@@ -139,7 +139,8 @@ module _ (s : Store) (d : Day) (l : List ℕ) (ws : List Window) (e : Event) {ok
       same : (b : Bool) → tooShort s ≡ false → isEnd e ≡ b → timedAnswer t l ws e ≡ answerBy ok (siteIn s) l e
       same true k c =
           let m = long-enough s k in
-          let v : ok ≡ fits = h ∙ hit _ _ _ c ∙ ap (λ (x : Channel). listOk (x .config .nodes) (d .length) ws) (as-channel s (m .0) (m .1)) in
+          let v : ok ≡ fits = h ∙ hit _ _ _ c
+          ∙ ap (λ (x : SiteHeader). listOk (x .config .nodes) (d .length) ws) (as-header s (m .0) (m .1)) in
           ap (λ (b : Bool). answerBy b (siteIn s) l e) (sym v)
       same false k c =
           let f = ap (λ (b : Bool). b && isDone (answerOf (siteIn s) l e)) c in
@@ -169,7 +170,7 @@ module _ (s : Store) (d : Day) (l : List ℕ) (ws : List Window) (e : Event) {ok
       go false k = skip _ _ _ _ k (told (isDone (timedAnswer t l ws e)) k refl)
           ∙ ap (λ (a : Answer). cond (isDone a) (nextDay t e) d) by-answer
 
-  pub turned-by : turned s d l ws e ≡ turnedBy ok s d l e
+  pub turned-by : dayAnswer s d l ws e ≡ turnedBy ok s d l e
   turned-by = λ i. record { answer = by-answer i; day = by-day i }
 
   pub store-by : timedStore s d l ws e ≡ storeBy ok s d l ws e
@@ -191,7 +192,7 @@ module _ (s : Store) (d : Day) (l : List ℕ) (ws : List Window) (e : Event) {ok
 
 -- a list that keeps the rules is found to be so, whichever the event
 pub keeps : (s : Store) (d : Day) (ws : List Window) (e : Event) → Long s → listOk (siteIn s .config .nodes) (d .length) ws ≡ true
-    → true ≡ verdict s d ws e
+    → true ≡ listVerdict s d ws e
 keeps s d ws e m h =
-    sym (read-same (λ (b : Bool). b) (isEnd e) (listOk (channelRead s .config .nodes) (d .length) ws) true true
-    (ap (λ (x : Channel). listOk (x .config .nodes) (d .length) ws) (as-channel s (m .0) (m .1)) ∙ h) refl)
+    sym (read-same (λ (b : Bool). b) (isEnd e) (listOk (headerRead s .config .nodes) (d .length) ws) true true
+    (ap (λ (x : SiteHeader). listOk (x .config .nodes) (d .length) ws) (as-header s (m .0) (m .1)) ∙ h) refl)

@@ -31,7 +31,7 @@ use Rattle.site.proofs.Steps.{config-kept}
 use Rattle.windows.specs.Windows.{listOk, hasWindows, dueAt}
 use Rattle.windows.specs.declared.Window.{Window}
 use Rattle.windows.proofs.Laws.{due-kept, none-has}
-use Rattle.machine.specs.hours.Hours.{Timed, nextEpoch, givenMember, givenSite, givenTable, timedLoadAnswer, loadedTimed, inLastRound}
+use Rattle.machine.specs.hours.Hours.{Timed, nextInDay, givenMember, givenSite, givenTable, timedLoadAnswer, loadedTimed, inLastRound}
 use Rattle.machine.specs.hours.Hours.{timedAnswer, givenBefore, nextTimed, timedAfter, epochAfter, beginsEpoch}
 use Rattle.machine.specs.declared.Day.{Day}
 
@@ -133,7 +133,7 @@ plain-after t area ws e h = go (isDone (answerOf (t .site) area e)) refl
     site : givenBefore t ws e ≡ t .site
     site = skip _ _ _ _ (ap (λ (b : Bool). b && inLastRound (t .site)) h) refl
 
-    day : cond (isEnd e && inLastRound (t .site)) (nextEpoch (t .day)) (t .day) ≡ t .day
+    day : cond (isEnd e && inLastRound (t .site)) (nextInDay (t .day)) (t .day) ≡ t .day
     day = skip _ _ _ _ (ap (λ (b : Bool). b && inLastRound (t .site)) h) refl
 
     go : (b : Bool) → isDone (answerOf (t .site) area e) ≡ b → timedAfter t area ws e
@@ -173,4 +173,4 @@ pub length-kept : (t : Timed) (area : List ℕ) (ws : List Window) (e : Event) �
 unfolding timedAfter nextTimed
 length-kept t area ws e =
     read-same (λ (x : Timed). x .day .length) (isDone (timedAnswer t area ws e)) (nextTimed t area ws e) t (t .day .length)
-    (read-same (λ (x : Day). x .length) (beginsEpoch t e) (nextEpoch (t .day)) (t .day) (t .day .length) refl refl) refl
+    (read-same (λ (x : Day). x .length) (beginsEpoch t e) (nextInDay (t .day)) (t .day) (t .day .length) refl refl) refl

@@ -38,7 +38,7 @@ use Rattle.machine.proofs.steps.Follows.{follows, want-long}
 use Rattle.machine.specs.hours.Hours.{Timed, firstEpoch, epochAfter, givenSite, givenTable, timedLoadAnswer, loadedTimed, inLastRound}
 use Rattle.machine.specs.hours.Hours.{timedAnswer, givenBefore, nextTimed, timedAfter}
 use Rattle.machine.specs.hours.Stored.{timedIn, storedLoadAnswer, storedLoad, timedLoadedStore, timedLoadedSite, givenAt, givenStore}
-use Rattle.machine.specs.hours.Stored.{storedAnswer, storedDay, turned, begunStore, timedStore, timedSite}
+use Rattle.machine.specs.hours.Stored.{storedAnswer, storedDay, dayAnswer, begunStore, timedStore, timedSite}
 use Rattle.machine.specs.declared.Day.{Day}
 use Rattle.machine.proofs.hours.Laws.{given-none, loaded-site, end-area, end-room, end-phase, end-windows, refused-after, done-after}
 use Rattle.machine.proofs.hours.Laws.{plain-answer, plain-after, end-is}
@@ -159,7 +159,7 @@ module _ (s : Store) (f : Config) (t : Table) (D : ℕ) (ws : List Window) where
 module _ (s : Store) (d : Day) (l : List ℕ) (ws : List Window) where
   abbrev pub TurnIs : Event → Answer → Day → List ℕ → List ℕ → List ℕ → Type 0
   TurnIs e a n w b x =
-      (record { answer = a; day = n } ≡ turned s d l ws e)
+      (record { answer = a; day = n } ≡ dayAnswer s d l ws e)
       × ((w ≡ timedStore s d l ws e .words)
       × ((b ≡ timedStore s d l ws e .bytes) × ((siteIn (store w b) ≡ timedSite s d l ws e) × (x ≡ areaWith s l e))))
 
@@ -273,7 +273,7 @@ module _ (s : Store) (d : Day) (l : List ℕ) (ws : List Window) where
 
 -- of storage that is long enough, all is as the site with its day has it
 pub as-timed : (s : Store) (d : Day) (l : List ℕ) (ws : List Window) (e : Event) → Long s
-    → (turned s d l ws e ≡ record { answer = timedAnswer (timedIn s d) l ws e; day = timedAfter (timedIn s d) l ws e .day })
+    → (dayAnswer s d l ws e ≡ record { answer = timedAnswer (timedIn s d) l ws e; day = timedAfter (timedIn s d) l ws e .day })
     × ((timedSite s d l ws e ≡ timedAfter (timedIn s d) l ws e .site) × (areaWith s l e ≡ areaAfter (siteIn s) l e))
 unfolding storedAnswer storedDay timedSite
 as-timed s d l ws e h =

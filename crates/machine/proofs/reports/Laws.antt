@@ -20,7 +20,8 @@ use Rattle.site.specs.declared.Event.{Event}
 use Rattle.machine.specs.Layout.{Store, tooShort, siteIn}
 use Rattle.machine.specs.steps.After.{storageAnswer}
 use Rattle.machine.specs.Loading.{memberRead}
-use Rattle.machine.specs.reports.Reports.{untold, toldBy, reportOf, closesWith, reportedIn, toldIn, reportSize, reportBytes}
+use Rattle.machine.specs.reports.Reports.{noNodeReport, memberReport, reportOf, closesWith, reportedIn, nodeReportIn, reportsSize}
+use Rattle.machine.specs.reports.Reports.{reportBytes}
 use Rattle.machine.specs.reports.Reports.{putReport}
 use Rattle.machine.specs.declared.Report.{Report}
 
@@ -32,14 +33,15 @@ pub a-close : (e : Event) (a : Answer) → isClose e ≡ true → isDone a ≡ c
 a-close e a h = sym (ap (λ (t : Bool). t && isDone a) h)
 
 -- nobody reports
-pub none-told : (s : Store) (l : List ℕ) (e : Event) (j : ℕ) → reportedIn s l e ≡ false → untold ≡ toldIn s l e j
-unfolding toldIn toldBy
-none-told s l e j h = sym (ap (λ (t : Bool). toldBy t (memberRead s j)) h)
+pub none-told : (s : Store) (l : List ℕ) (e : Event) (j : ℕ) → reportedIn s l e ≡ false → noNodeReport ≡ nodeReportIn s l e j
+unfolding nodeReportIn memberReport
+none-told s l e j h = sym (ap (λ (t : Bool). memberReport t (memberRead s j)) h)
 
 -- node j reports
-pub all-told : (s : Store) (l : List ℕ) (e : Event) (j : ℕ) → reportedIn s l e ≡ true → toldBy true (memberRead s j) ≡ toldIn s l e j
-unfolding toldIn
-all-told s l e j h = sym (ap (λ (t : Bool). toldBy t (memberRead s j)) h)
+pub all-told : (s : Store) (l : List ℕ) (e : Event) (j : ℕ) → reportedIn s l e ≡ true → memberReport true (memberRead s j)
+    ≡ nodeReportIn s l e j
+unfolding nodeReportIn
+all-told s l e j h = sym (ap (λ (t : Bool). memberReport t (memberRead s j)) h)
 
 -- storage that is too short accepts nothing
 pub accepts-long : (s : Store) (l : List ℕ) (e : Event) → reportedIn s l e ≡ true → tooShort s ≡ false
@@ -52,7 +54,7 @@ accepts-long s l e h = go (tooShort s) refl (and-right (isClose e) (isDone (stor
 
 -- the output of an event: one with no room, one of an event that is no accepted close, and one that gets the report
 module _ (s : Store) (l : List ℕ) (e : Event) (out : List ℕ) where
-  pub no-place : length out < reportSize → out ≡ putReport s l e out
+  pub no-place : length out < reportsSize → out ≡ putReport s l e out
   unfolding putReport
   no-place h = sym (skip _ _ _ _ (ap (λ (t : Bool). t && reportedIn s l e) (lt-leb _ _ h)) refl)
 
@@ -62,16 +64,17 @@ module _ (s : Store) (l : List ℕ) (e : Event) (out : List ℕ) where
 
   pub no-close-put : reportedIn s l e ≡ false → out ≡ putReport s l e out
   unfolding putReport
-  no-close-put h = sym (skip _ _ _ _ (ap (λ (t : Bool). leb reportSize (length out) && t) h ∙ and-false (leb reportSize (length out))) refl)
+  no-close-put h = sym (skip _ _ _ _
+      (ap (λ (t : Bool). leb reportsSize (length out) && t) h ∙ and-false (leb reportsSize (length out))) refl)
 
-  pub put-there : {r : Report} {b x : List ℕ} {n : ℕ} → reportSize ≤ length out → reportedIn s l e ≡ true → r
+  pub put-there : {r : Report} {b x : List ℕ} {n : ℕ} → reportsSize ≤ length out → reportedIn s l e ≡ true → r
       ≡ reportOf true (siteIn s .members) → b ≡ reportBytes r → Tried out 0 b n x
       → x ≡ putReport s l e out
   unfolding putReport reportBytes
   put-there {r} {b} h k q f t =
       let g : b ≡ reportBytes (reportOf true (siteIn s .members)) = f ∙ ap reportBytes q in
-      let m : length b ≡ reportSize = ap length f ∙ length-tab reportSize _ in
-      let z : 0 + length b ≡ reportSize = omega (arith, m) in
+      let m : length b ≡ reportsSize = ap length f ∙ length-tab reportsSize _ in
+      let z : 0 + length b ≡ reportsSize = omega (arith, m) in
       t .is
       ∙ hit _ _ _ (ap (λ (n : ℕ). leb n (length out)) z ∙ le-leb _ _ h)
       ∙ ap (written out 0) g

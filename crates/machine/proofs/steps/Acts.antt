@@ -17,14 +17,14 @@ use Rattle.node.specs.declared.Packet.{Packet}
 use Rattle.node.specs.declared.Core.{Core}
 use Rattle.wire.specs.Layout.{packetIn}
 use Rattle.site.specs.Counts.{packets, sentOf}
-use Rattle.site.specs.Members.{outside, memberAt, withNode, setupOf, channelOf}
+use Rattle.site.specs.Members.{outside, memberAt, withNode, setupOf, headerOf}
 use Rattle.site.specs.Steps.{stored, sentArea}
-use Rattle.site.specs.declared.Channel.{Channel}
+use Rattle.site.specs.declared.SiteHeader.{SiteHeader}
 use Rattle.node.specs.declared.Config.{Config}
 use Rattle.site.specs.Model.{Member}
 use Rattle.machine.specs.Layout.{Store, wordsSize, bytesSize, atSent, nodeIn, storedIn, configIn, siteIn}
 use Rattle.machine.specs.Written.{writtenFront}
-use Rattle.machine.specs.Acts.{packetRead, heardPut, wantedPut, takenPut}
+use Rattle.machine.specs.Acts.{packetSent, heardPut, wantedPut, takenPut}
 use Rattle.machine.proofs.Seats.{inside, member-is}
 use Rattle.machine.proofs.Whole.{has-place}
 use Rattle.machine.specs.steps.After.{heardPart, takenStore, wantedStore}
@@ -42,17 +42,17 @@ module _ (s : Store) (j : ℕ) (h : outside (configIn s) j ≡ false) where
   packet-there = ap (λ (v : Member). packetOf (v .node)) (sym (member-is s j h))
 
 -- the area after a send
-pub area-sent : (s : Store) (j : ℕ) {c : ℕ} {k : Channel} (area : List ℕ) → k ≡ channelOf (siteIn s) → c ≡ packets (k .sent)
+pub area-sent : (s : Store) (j : ℕ) {c : ℕ} {k : SiteHeader} (area : List ℕ) → k ≡ headerOf (siteIn s) → c ≡ packets (k .sent)
     → stored area c (packetOf (memberAt (siteIn s) j .node)) ≡ sentArea (siteIn s) area j
 unfolding sentArea
 area-sent s j area x y = ap (λ (i : ℕ). stored area i (packetOf (memberAt (siteIn s) j .node)))
-    (y ∙ ap (λ (k : Channel). packets (k .sent)) x)
+    (y ∙ ap (λ (k : SiteHeader). packets (k .sent)) x)
 
 -- a hear, a want and a take of nodes that have a place
 module _ (s : Store) (w : wordsSize ≤ length (s .words)) (b : bytesSize ≤ length (s .bytes)) (j : ℕ) (o : outside (configIn s) j ≡ false)
   where
-    pub sent-packet : packetRead s j ≡ packetOf (nodeIn s (j - 1))
-    unfolding packetRead
+    pub sent-packet : packetSent s j ≡ packetOf (nodeIn s (j - 1))
+    unfolding packetSent
     sent-packet = skip _ _ _ _ (has-place s j w b o) refl
 
     pub heard-put : (part : List ℕ) {q : Packet} → q ≡ packetIn part → heardPut s j q ≡ heardPart s part j

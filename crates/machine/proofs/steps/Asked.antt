@@ -15,9 +15,9 @@ use Rattle.node.specs.declared.Packet.{Packet}
 use Rattle.node.specs.declared.Phase.{Phase}
 use Rattle.node.proofs.Answers.{done-is, test-passed}
 use Rattle.wire.specs.Reads.{partOf}
-use Rattle.site.specs.Members.{channelOf, memberAt, outside, isLive, seat}
+use Rattle.site.specs.Members.{headerOf, memberAt, outside, isLive, nodeIndex}
 use Rattle.site.specs.Answers.{isFull, isPacket, answerPart, siteSend, siteHear}
-use Rattle.site.specs.declared.Channel.{Channel}
+use Rattle.site.specs.declared.SiteHeader.{SiteHeader}
 use Rattle.site.specs.Model.{Member}
 use Rattle.site.specs.Model.{Site}
 use Rattle.machine.specs.steps.Inner.{answerReady}
@@ -25,24 +25,24 @@ use Rattle.machine.specs.steps.After.{siteHeard}
 use Rattle.machine.specs.Layout.{Store, wordsSize, bytesSize, upIn, phaseIn, nodeIn, storedIn, configIn, siteIn}
 use Rattle.machine.specs.Acts.{hearRead}
 use Rattle.machine.proofs.Whole.{has-place}
-use Rattle.machine.proofs.Seats.{in-config, at-seat, live-stored, member-is}
+use Rattle.machine.proofs.Seats.{in-config, at-node-index, live-stored, member-is}
 
--- the channel's tests
-module _ (s : Store) {k : Channel} (e : k ≡ channelOf (siteIn s)) where
+-- the header's tests
+module _ (s : Store) {k : SiteHeader} (e : k ≡ headerOf (siteIn s)) where
   pub out : (j : ℕ) {t b : Bool} → t ≡ outside (k .config) j → t ≡ b → outside (siteIn s .config) j ≡ b
-  out j p q = ap (λ (x : Channel). outside (x .config) j) (sym e) ∙ sym p ∙ q
+  out j p q = ap (λ (x : SiteHeader). outside (x .config) j) (sym e) ∙ sym p ∙ q
 
   pub outs : (j g : ℕ) {t u b : Bool} → t ≡ outside (k .config) j → u ≡ outside (k .config) g → (t || u) ≡ b
       → (outside (siteIn s .config) j || outside (siteIn s .config) g) ≡ b
   outs j g p r q = ap₂ _||_ (out j p refl) (out g r refl) ∙ q
 
   pub phase : {b : Bool} → k .negotiates ≡ b → siteIn s .negotiates ≡ b
-  phase q = ap (λ (x : Channel). x .negotiates) (sym e) ∙ q
+  phase q = ap (λ (x : SiteHeader). x .negotiates) (sym e) ∙ q
 
 -- the member's
-module _ (s : Store) (j : ℕ) (o : outside (siteIn s .config) j ≡ false) {i : ℕ} (g : i ≡ seat j) where
+module _ (s : Store) (j : ℕ) (o : outside (siteIn s .config) j ≡ false) {i : ℕ} (g : i ≡ nodeIndex j) where
   pub there : storedIn s i ≡ memberAt (siteIn s) j
-  there = ap (storedIn s) (at-seat (configIn s) j g (in-config s j o)) ∙ sym (member-is s j (in-config s j o))
+  there = ap (storedIn s) (at-node-index (configIn s) j g (in-config s j o)) ∙ sym (member-is s j (in-config s j o))
 
   pub live : {t b : Bool} → t ≡ (upIn (s .bytes) i && not (isWaiting (phaseIn (s .bytes) i))) → t ≡ b → isLive (memberAt (siteIn s) j) ≡ b
   live p q = sym (ap isLive there) ∙ live-stored s i ∙ sym p ∙ q
@@ -79,37 +79,37 @@ first false true v r = refl
 first false false true r = refl
 first false false false r = refl
 
-ready-first : (k : Channel) (m : Member) (j : ℕ) (r : Answer)
+ready-first : (k : SiteHeader) (m : Member) (j : ℕ) (r : Answer)
     → cond (outside (k .config) j) NoSuchNode (cond (not (k .negotiates)) WrongPhase (cond (not (isLive m)) NotLive r))
     ≡ cond (isDone (answerReady k m j)) r (answerReady k m j)
 unfolding answerReady
 ready-first k m j r = first (outside (k .config) j) (not (k .negotiates)) (not (isLive m)) r
 
 -- a send and a hear, behind their first tests
-module _ (s : Store) (j : ℕ) {a : Answer} (e : a ≡ answerReady (channelOf (siteIn s)) (memberAt (siteIn s) j) j) where
+module _ (s : Store) (j : ℕ) {a : Answer} (e : a ≡ answerReady (headerOf (siteIn s)) (memberAt (siteIn s) j) j) where
   pub ready-out : isDone a ≡ true → outside (siteIn s .config) j ≡ false
   unfolding answerReady
   ready-out d = test-passed (outside (siteIn s .config) j) NoSuchNode _ refl (sym e ∙ done-is a d) .0
 
   pub send-refused : isDone a ≡ false → a ≡ siteSend (siteIn s) j
   unfolding siteSend
-  send-refused d = e ∙ sym (ready-first (channelOf (siteIn s)) (memberAt (siteIn s) j) j _ ∙ skip _ _ _ _ (ap isDone (sym e) ∙ d) refl)
+  send-refused d = e ∙ sym (ready-first (headerOf (siteIn s)) (memberAt (siteIn s) j) j _ ∙ skip _ _ _ _ (ap isDone (sym e) ∙ d) refl)
 
-  pub send-rest : isDone a ≡ true → cond (isFull (channelOf (siteIn s)) j) TooManyPackets (sendAnswer (memberAt (siteIn s) j .node))
+  pub send-rest : isDone a ≡ true → cond (isFull (headerOf (siteIn s)) j) TooManyPackets (sendAnswer (memberAt (siteIn s) j .node))
       ≡ siteSend (siteIn s) j
   unfolding siteSend
-  send-rest d = sym (ready-first (channelOf (siteIn s)) (memberAt (siteIn s) j) j _ ∙ hit _ _ _ (ap isDone (sym e) ∙ d))
+  send-rest d = sym (ready-first (headerOf (siteIn s)) (memberAt (siteIn s) j) j _ ∙ hit _ _ _ (ap isDone (sym e) ∙ d))
 
   pub hear-refused : (part : List ℕ) (p : ℕ) → isDone a ≡ false → a ≡ siteHeard (siteIn s) part j p
   unfolding siteHeard
   hear-refused part p d = e ∙ sym
-      (ready-first (channelOf (siteIn s)) (memberAt (siteIn s) j) j _ ∙ skip _ _ _ _ (ap isDone (sym e) ∙ d) refl)
+      (ready-first (headerOf (siteIn s)) (memberAt (siteIn s) j) j _ ∙ skip _ _ _ _ (ap isDone (sym e) ∙ d) refl)
 
   pub hear-rest : (part : List ℕ) (p : ℕ) → isDone a ≡ true
-      → cond (not (isPacket (channelOf (siteIn s)) p)) NoSuchPacket (answerPart (channelOf (siteIn s)) (memberAt (siteIn s) j) part)
+      → cond (not (isPacket (headerOf (siteIn s)) p)) NoSuchPacket (answerPart (headerOf (siteIn s)) (memberAt (siteIn s) j) part)
       ≡ siteHeard (siteIn s) part j p
   unfolding siteHeard
-  hear-rest part p d = sym (ready-first (channelOf (siteIn s)) (memberAt (siteIn s) j) j _ ∙ hit _ _ _ (ap isDone (sym e) ∙ d))
+  hear-rest part p d = sym (ready-first (headerOf (siteIn s)) (memberAt (siteIn s) j) j _ ∙ hit _ _ _ (ap isDone (sym e) ∙ d))
 
 -- a hear of the area is one of the part that its packet has there
 pub heard-there : (s : Site) (area : List ℕ) (j p : ℕ) → siteHeard s (partOf area (p - 1)) j p ≡ siteHear s area j p

@@ -24,7 +24,7 @@ use Rattle.range.proofs.Lengths.{Lengths, long-hear, long-want, long-restart}
 use Rattle.wire.specs.Layout.{packetIn}
 use Rattle.site.specs.Parts.{packetPart}
 use Rattle.site.specs.Counts.{oneMore}
-use Rattle.site.specs.Members.{channelOf, outside, downMember, setupOf, put}
+use Rattle.site.specs.Members.{headerOf, outside, downMember, setupOf, put}
 use Rattle.site.specs.Steps.{sentSite, heardMember, heardSite, takenMember, takenSite, wantedMember, wantedSite, crashedSite}
 use Rattle.site.specs.Steps.{restartedMember, restartedSite}
 use Rattle.site.specs.Model.{Member}
@@ -64,7 +64,7 @@ module _ (s : Store) (w : wordsSize ≤ length (s .words)) (b : bytesSize ≤ le
     pub heard-site : (area : List ℕ) (p : ℕ) → siteIn (heardStore s area j p) ≡ heardSite (siteIn s) area j p
     unfolding heardStore heardSite
     heard-site area p =
-        let x : List ℕ = packetPart (channelOf (siteIn s)) area p in
+        let x : List ℕ = packetPart (headerOf (siteIn s)) area p in
         let q : Packet = packetIn x in
         let n : Node = nodeIn s (j - 1) in
         let m : Member = heardMember x (storedIn s (j - 1)) in
@@ -90,7 +90,7 @@ module _ (s : Store) (w : wordsSize ≤ length (s .words)) (b : bytesSize ≤ le
 
     pub restarted-site : (flags : ℕ) → siteIn (restartedStore s j flags) ≡ restartedSite (siteIn s) j flags
     unfolding restartedStore restartedSite
-    restarted-site flags = placed-site (restartedMember (channelOf (siteIn s)) j flags)
+    restarted-site flags = placed-site (restartedMember (headerOf (siteIn s)) j flags)
         (long-restart (setupOf (siteIn s .config) j) flags (siteIn s .place) 0)
         (restarted (setupOf (siteIn s .config) j) flags (siteIn s .place) 0 .setup ∙ ap (λ (f : Config). setupOf f j) (config-are s))
         (waiting-bare (setupOf (siteIn s .config) j) flags (siteIn s .place) 0)

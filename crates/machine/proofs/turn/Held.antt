@@ -18,8 +18,8 @@ use Rattle.site.specs.Model.{Member}
 use Rattle.machine.specs.Layout.{Store, siteIn, wordsSize, bytesSize}
 use Rattle.machine.specs.Loading.{memberRead, slotsRead}
 use Rattle.machine.proofs.Whole.{as-member}
-use Rattle.tally.specs.Claims.{gives, heldBy}
-use Rattle.tally.specs.Ends.{ownSchedule, schedulesAt}
+use Rattle.tally.specs.Claims.{givesSlot, heldBy}
+use Rattle.tally.specs.Ends.{ownSchedule, schedulesOf}
 
 -- the slots of node j by the schedule of a member
 abbrev given : Schedule → ℕ → ℕ
@@ -35,8 +35,8 @@ own m i = go (isLive m)
         (λ k l. ap (λ (x : ℕ). eqb x (i + 1)) (owner-free k) ∙ ne-eqb 0 (i + 1) (λ e. omega (arith, e))))
 
 pub slots-read : (s : Store) (i : ℕ) → wordsSize ≤ length (s .words) → bytesSize ≤ length (s .bytes) → i < 32 → slotsRead s (i + 1)
-    ≡ heldBy (schedulesAt (siteIn s)) i
-unfolding slotsRead schedulesAt
+    ≡ heldBy (schedulesOf (siteIn s)) i
+unfolding slotsRead schedulesOf
 slots-read s i w b l =
     let z : i + 1 - 1 ≡ i = omega arith in
     let m = as-member s (i + 1) w b (omega arith) (omega (arith, l)) ∙ ap (λ (k : ℕ). getD (siteIn s .members) k nobody) z in

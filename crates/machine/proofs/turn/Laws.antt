@@ -24,7 +24,7 @@ use Rattle.machine.specs.steps.After.{storageAnswer}
 use Rattle.machine.specs.hours.Hours.{Timed, timedAnswer, timedAfter, nextTimed}
 use Rattle.machine.specs.hours.Stored.{timedIn, storedAnswer, timedStore}
 use Rattle.machine.specs.declared.Day.{Day}
-use Rattle.machine.specs.declared.Turned.{Turned}
+use Rattle.machine.specs.declared.DayAnswer.{DayAnswer}
 use Rattle.machine.proofs.hours.Laws.{end-is, end-area, plain-answer, refused-after, done-after}
 use Rattle.machine.proofs.hours.Stored.{TurnIs, as-timed}
 use Rattle.machine.specs.reports.Reports.{reportedIn, putReport}
@@ -32,28 +32,29 @@ use Rattle.machine.proofs.reports.Laws.{no-close-put}
 use Rattle.tally.specs.Counting.{tallyOk}
 use Rattle.tally.specs.Ends.{talliedAnswer, tallyAt}
 use Rattle.tally.specs.declared.Tally.{Tally}
-use Rattle.machine.specs.turn.Kept.{Kept, firstOf, listFits, keptAnswer, nextKept, keptAfter}
-use Rattle.machine.specs.turn.Stored.{keptIn, noPlace, tooFew, stepAnswer, isAccepted, stepStore, stepReport, stepKept, stepped}
+use Rattle.machine.specs.turn.Kept.{Kept, firstRefusal, listFits, keptAnswer, nextKept, keptAfter}
+use Rattle.machine.specs.turn.Stored.{keptIn, reportTooShort, lentTooShort, stepAnswer, stepAccepted, stepStore, stepReport, stepKept}
+use Rattle.machine.specs.turn.Stored.{stepResult}
 use Rattle.machine.specs.turn.Inner.{objection, tallyBehind}
-use Rattle.machine.specs.declared.Stepped.{Stepped}
+use Rattle.machine.specs.declared.StepResult.{StepResult}
 
 -- two answers, where the first is done or not
-pub first-done : (x : Answer) → firstOf x Done ≡ x
+pub first-done : (x : Answer) → firstRefusal x Done ≡ x
 first-done x = go (isDone x) refl
   where
     go : (b : Bool) → isDone x ≡ b → cond b Done x ≡ x
     go true h = sym (done-is x h)
     go false h = refl
 
-end-first : (x g : Answer) (b : Bool) → isDone x ≡ b → firstOf (cond b Done x) g ≡ cond b g x
+end-first : (x g : Answer) (b : Bool) → isDone x ≡ b → firstRefusal (cond b Done x) g ≡ cond b g x
 end-first x g true h = refl
 end-first x g false h = skip _ _ _ _ h refl
 
-bad-first : (x g : Answer) (b : Bool) → isDone x ≡ b → firstOf (cond b NotANode x) g ≡ cond b NotANode x
+bad-first : (x g : Answer) (b : Bool) → isDone x ≡ b → firstRefusal (cond b NotANode x) g ≡ cond b NotANode x
 bad-first x g true h = refl
 bad-first x g false h = skip _ _ _ _ h refl
 
-pub first-refuses : (x o : Answer) → isDone o ≡ false → isDone (firstOf x o) ≡ false
+pub first-refuses : (x o : Answer) → isDone o ≡ false → isDone (firstRefusal x o) ≡ false
 first-refuses x o h = go (isDone x) refl
   where
     go : (b : Bool) → isDone x ≡ b → isDone (cond b o x) ≡ false
@@ -93,8 +94,9 @@ close-no-end (Crash j) h = refl
 close-no-end (Restart j m) h = refl
 
 -- what is lent is long enough for the storage
-pub few-short : (s : Store) (l out : List ℕ) → tooFew s l out ≡ false → (wordsSize ≤ length (s .words)) × (bytesSize ≤ length (s .bytes))
-few-short s l out h = long-enough s (or-neither (tooShort s) (ltb (length l) areaSize || noPlace out) h .0)
+pub few-short : (s : Store) (l out : List ℕ) → lentTooShort s l out ≡ false → (wordsSize ≤ length (s .words))
+    × (bytesSize ≤ length (s .bytes))
+few-short s l out h = long-enough s (or-neither (tooShort s) (ltb (length l) areaSize || reportTooShort out) h .0)
 
 module _ (k : Kept) (ws : List Window) (e : Event) where
   abbrev plain : Answer
@@ -108,24 +110,24 @@ module _ (k : Kept) (ws : List Window) (e : Event) where
       list : Answer
       list = cond (listFits k ws) Done BadWindows
 
-      go : (b : Bool) → isEnd e ≡ b → firstOf (cond (isEnd e && isDone plain) (cond (tallyOk (k .tally)) Done NotANode) plain) list
+      go : (b : Bool) → isEnd e ≡ b → firstRefusal (cond (isEnd e && isDone plain) (cond (tallyOk (k .tally)) Done NotANode) plain) list
           ≡ cond (isEnd e && isDone plain) list plain
       go true c =
           let v : tallyOk (k .tally) ≡ true = tally-met _ (sym (ap isDone (hit _ _ list c)) ∙ h) in
-          ap (λ (z : Bool). firstOf (cond (z && isDone plain) (cond (tallyOk (k .tally)) Done NotANode) plain) list) c
-          ∙ ap (λ (z : Bool). firstOf (cond (isDone plain) (cond z Done NotANode) plain) list) v
+          ap (λ (z : Bool). firstRefusal (cond (z && isDone plain) (cond (tallyOk (k .tally)) Done NotANode) plain) list) c
+          ∙ ap (λ (z : Bool). firstRefusal (cond (isDone plain) (cond z Done NotANode) plain) list) v
           ∙ end-first plain list (isDone plain) refl
           ∙ sym (ap (λ (z : Bool). cond (z && isDone plain) list plain) c)
       go false c =
           let v : listFits k ws ≡ true = list-met _
           (sym (ap isDone (skip _ (cond (tallyOk (k .tally)) Done NotANode) list list c refl)) ∙ h) in
-          ap (λ (z : Bool). firstOf (cond (z && isDone plain) (cond (tallyOk (k .tally)) Done NotANode) plain) list) c
-          ∙ ap (λ (z : Bool). firstOf plain (cond z Done BadWindows)) v
+          ap (λ (z : Bool). firstRefusal (cond (z && isDone plain) (cond (tallyOk (k .tally)) Done NotANode) plain) list) c
+          ∙ ap (λ (z : Bool). firstRefusal plain (cond z Done BadWindows)) v
           ∙ first-done plain
           ∙ sym (ap (λ (z : Bool). cond (z && isDone plain) list plain) c)
 
   -- an objection comes behind what the site refuses
-  pub objected : isDone (objection k ws e) ≡ false → keptAnswer k ws e ≡ firstOf plain (objection k ws e)
+  pub objected : isDone (objection k ws e) ≡ false → keptAnswer k ws e ≡ firstRefusal plain (objection k ws e)
   unfolding keptAnswer talliedAnswer
   objected h = go (isEnd e) refl
     where
@@ -135,22 +137,23 @@ module _ (k : Kept) (ws : List Window) (e : Event) where
       tested : Answer
       tested = cond (tallyOk (k .tally)) Done NotANode
 
-      go : (b : Bool) → isEnd e ≡ b → firstOf (cond (isEnd e && isDone plain) tested plain) list
-          ≡ firstOf plain (cond (isEnd e) tested list)
+      go : (b : Bool) → isEnd e ≡ b → firstRefusal (cond (isEnd e && isDone plain) tested plain) list
+          ≡ firstRefusal plain (cond (isEnd e) tested list)
       go true c =
           let v : tallyOk (k .tally) ≡ false = tally-missed _ (sym (ap isDone (hit _ _ list c)) ∙ h) in
-          ap (λ (z : Bool). firstOf (cond (z && isDone plain) tested plain) list) c
-          ∙ ap (λ (z : Bool). firstOf (cond (isDone plain) (cond z Done NotANode) plain) list) v
+          ap (λ (z : Bool). firstRefusal (cond (z && isDone plain) tested plain) list) c
+          ∙ ap (λ (z : Bool). firstRefusal (cond (isDone plain) (cond z Done NotANode) plain) list) v
           ∙ bad-first plain list (isDone plain) refl
-          ∙ sym (ap (λ (z : Bool). firstOf plain (cond z tested list)) c ∙ ap (λ (z : Bool). firstOf plain (cond z Done NotANode)) v)
-      go false c = ap (λ (z : Bool). firstOf (cond (z && isDone plain) tested plain) list) c
-          ∙ sym (ap (λ (z : Bool). firstOf plain (cond z tested list)) c)
+          ∙ sym (ap (λ (z : Bool). firstRefusal plain (cond z tested list)) c
+          ∙ ap (λ (z : Bool). firstRefusal plain (cond z Done NotANode)) v)
+      go false c = ap (λ (z : Bool). firstRefusal (cond (z && isDone plain) tested plain) list) c
+          ∙ sym (ap (λ (z : Bool). firstRefusal plain (cond z tested list)) c)
 
   -- an event that the site with its tally and its list accepts is accepted with its list alone
   abbrev said : Answer
   said = cond (listFits k ws) Done BadWindows
 
-  accepted-by : (b c : Bool) (x v : Answer) → isDone x ≡ c → isDone (firstOf (cond (b && c) v x) said) ≡ true
+  accepted-by : (b c : Bool) (x v : Answer) → isDone x ≡ c → isDone (firstRefusal (cond (b && c) v x) said) ≡ true
       → isDone (cond (b && c) said x) ≡ true
   accepted-by true true x v h g = tested (isDone v) refl
     where
@@ -218,45 +221,45 @@ module _ (s : Store) (d : Day) (l : List ℕ) (ws : List Window) (t : Tally) (ou
   kept = keptIn s d l t
 
   -- what is said of an event
-  abbrev pub StepIs : Stepped → List ℕ → List ℕ → List ℕ → List ℕ → Type 0
+  abbrev pub StepIs : StepResult → List ℕ → List ℕ → List ℕ → List ℕ → Type 0
   StepIs r w b x o =
-      (r ≡ stepped s d l ws t out e)
+      (r ≡ stepResult s d l ws t out e)
       × ((w ≡ stepStore s d l ws t out e .words)
       × ((b ≡ stepStore s d l ws t out e .bytes)
       × ((o ≡ stepReport s d l ws t out e) × (keptIn (store w b) (r .day) x (r .tally) ≡ stepKept s d l ws t out e))))
 
   -- a refusal changes nothing
-  pub kept-refused : isAccepted s d l ws t out e ≡ false → stepKept s d l ws t out e ≡ kept
+  pub kept-refused : stepAccepted s d l ws t out e ≡ false → stepKept s d l ws t out e ≡ kept
   unfolding stepAnswer stepKept keptAfter
-  kept-refused h = go (tooFew s l out) refl
+  kept-refused h = go (lentTooShort s l out) refl
     where
-      go : (b : Bool) → tooFew s l out ≡ b → cond b kept (keptAfter kept ws e) ≡ kept
+      go : (b : Bool) → lentTooShort s l out ≡ b → cond b kept (keptAfter kept ws e) ≡ kept
       go true c = refl
       go false c = skip _ _ _ _ (sym (ap isDone (skip _ NoRoom (keptAnswer kept ws e) _ c refl)) ∙ h) refl
 
-  pub store-refused : isAccepted s d l ws t out e ≡ false → stepStore s d l ws t out e ≡ s
+  pub store-refused : stepAccepted s d l ws t out e ≡ false → stepStore s d l ws t out e ≡ s
   unfolding stepStore
   store-refused h = skip _ _ _ _ h refl
 
   -- an accepted event is that of the site with its day
-  kept-done : isAccepted s d l ws t out e ≡ true → (tooFew s l out ≡ false) × (isDone (keptAnswer kept ws e) ≡ true)
+  kept-done : stepAccepted s d l ws t out e ≡ true → (lentTooShort s l out ≡ false) × (isDone (keptAnswer kept ws e) ≡ true)
   unfolding stepAnswer
-  kept-done h = go (tooFew s l out) refl
+  kept-done h = go (lentTooShort s l out) refl
     where
-      go : (b : Bool) → tooFew s l out ≡ b → (tooFew s l out ≡ false) × (isDone (keptAnswer kept ws e) ≡ true)
+      go : (b : Bool) → lentTooShort s l out ≡ b → (lentTooShort s l out ≡ false) × (isDone (keptAnswer kept ws e) ≡ true)
       go true c = never (sym (sym (ap isDone (hit _ NoRoom (keptAnswer kept ws e) c)) ∙ h))
       go false c = (c, sym (ap isDone (skip _ NoRoom (keptAnswer kept ws e) _ c refl)) ∙ h)
 
-  pub step-accepts : isAccepted s d l ws t out e ≡ true → isDone (timedAnswer (timedIn s d) l ws e) ≡ true
+  pub step-accepts : stepAccepted s d l ws t out e ≡ true → isDone (timedAnswer (timedIn s d) l ws e) ≡ true
   step-accepts h = accepts kept ws e (kept-done h .1)
 
-  pub step-timed : isAccepted s d l ws t out e ≡ true → stepKept s d l ws t out e .timed ≡ timedAfter (timedIn s d) l ws e
+  pub step-timed : stepAccepted s d l ws t out e ≡ true → stepKept s d l ws t out e .timed ≡ timedAfter (timedIn s d) l ws e
   unfolding stepKept keptAfter nextKept
   step-timed h =
       let a = kept-done h in
       ap (λ (k : Kept). k .timed) (skip _ _ _ _ (a .0) (hit _ _ _ (a .1))) ∙ sym (done-after (timedIn s d) l ws e (step-accepts h))
 
-  refused : {n : ℕ} → isAccepted s d l ws t out e ≡ false → n ≡ number (stepAnswer s d l ws t out e)
+  refused : {n : ℕ} → stepAccepted s d l ws t out e ≡ false → n ≡ number (stepAnswer s d l ws t out e)
       → StepIs (record { code = n; day = d; tally = t }) (s .words) (s .bytes) l out
   unfolding stepReport
   refused {n} h m =
@@ -266,14 +269,14 @@ module _ (s : Store) (d : Day) (l : List ℕ) (ws : List Window) (t : Tally) (ou
         (ap (λ (x : Store). x .words) (sym q), (ap (λ (x : Store). x .bytes) (sym q), (sym (skip _ _ _ _ h refl), sym g))),
       )
 
-  pub no-room : {n : ℕ} → tooFew s l out ≡ true → n ≡ number NoRoom
+  pub no-room : {n : ℕ} → lentTooShort s l out ≡ true → n ≡ number NoRoom
       → StepIs (record { code = n; day = d; tally = t }) (s .words) (s .bytes) l out
   unfolding stepAnswer
   no-room h m = let a : stepAnswer s d l ws t out e ≡ NoRoom = hit _ _ _ h in refused (ap isDone a) (m ∙ ap number (sym a))
 
-  module _ (few : tooFew s l out ≡ false) where
+  module _ (few : lentTooShort s l out ≡ false) where
     abbrev short : tooShort s ≡ false
-    short = or-neither (tooShort s) (ltb (length l) areaSize || noPlace out) few .0
+    short = or-neither (tooShort s) (ltb (length l) areaSize || reportTooShort out) few .0
 
     answer-is : stepAnswer s d l ws t out e ≡ keptAnswer kept ws e
     unfolding stepAnswer
@@ -284,11 +287,12 @@ module _ (s : Store) (d : Day) (l : List ℕ) (ws : List Window) (t : Tally) (ou
     storage-is = skip _ _ _ _ short refl
 
     -- refused for its tally or its list, or for what comes before these
-    pub refuses : {o a : Answer} {n : ℕ} → o ≡ objection kept ws e → isDone o ≡ false → a ≡ storageAnswer s l e → n ≡ number (firstOf a o)
+    pub refuses : {o a : Answer} {n : ℕ} → o ≡ objection kept ws e → isDone o ≡ false → a ≡ storageAnswer s l e → n
+        ≡ number (firstRefusal a o)
         → StepIs (record { code = n; day = d; tally = t }) (s .words) (s .bytes) l out
     refuses {o} {a} p h q m =
-        let z : firstOf a o ≡ stepAnswer s d l ws t out e =
-        ap (λ (x : Answer). firstOf x o) (q ∙ storage-is) ∙ ap (firstOf (answerOf (siteIn s) l e)) p
+        let z : firstRefusal a o ≡ stepAnswer s d l ws t out e =
+        ap (λ (x : Answer). firstRefusal x o) (q ∙ storage-is) ∙ ap (firstRefusal (answerOf (siteIn s) l e)) p
         ∙ sym (answer-is ∙ objected kept ws e (ap isDone (sym p) ∙ h)) in
         refused (ap isDone (sym z) ∙ first-refuses a o h) (m ∙ ap number z)
 
@@ -345,8 +349,8 @@ module _ (s : Store) (d : Day) (l : List ℕ) (ws : List Window) (t : Tally) (ou
       as-done {a} {n} {w} {b} {x} {o} {c} {y} p q u m =
           let z = as-timed s d l ws e (long-enough s short) in
           let r = p .0 ∙ z .0 in
-          let answer : a ≡ timed = ap (λ (v : Turned). v .answer) r in
-          let day : n ≡ timedAfter (timedIn s d) l ws e .day = ap (λ (v : Turned). v .day) r in
+          let answer : a ≡ timed = ap (λ (v : DayAnswer). v .answer) r in
+          let day : n ≡ timedAfter (timedIn s d) l ws e .day = ap (λ (v : DayAnswer). v .day) r in
           let site : siteIn (store w b) ≡ timedAfter (timedIn s d) l ws e .site = p .1 .1 .1 .0 ∙ z .1 .0 in
           let area : x ≡ areaAfter (siteIn s) l e = p .1 .1 .1 .1 ∙ z .1 .1 in
           let tally : y ≡ tallyBehind (timedAfter (timedIn s d) l ws e .site) e timed t = u ∙ ap (λ (v : Site). tallyBehind v e a t) site

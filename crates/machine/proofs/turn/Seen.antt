@@ -20,8 +20,8 @@ use Rattle.machine.specs.Layout.{Store, siteIn}
 use Rattle.machine.specs.declared.Day.{Day}
 use Rattle.tally.specs.Ends.{talliedAnswer}
 use Rattle.tally.specs.declared.Tally.{Tally}
-use Rattle.machine.specs.turn.Kept.{firstOf, keptAnswer}
-use Rattle.machine.specs.turn.Stored.{keptIn, tooFew, stepAnswer, isAccepted, stepStore, stepReport, stepKept}
+use Rattle.machine.specs.turn.Kept.{firstRefusal, keptAnswer}
+use Rattle.machine.specs.turn.Stored.{keptIn, lentTooShort, stepAnswer, stepAccepted, stepStore, stepReport, stepKept}
 use Rattle.machine.proofs.turn.Laws.{first-refuses, kept-refused, store-refused}
 
 -- what is one thing for every list that breaks the rules is the same for a list and its copy
@@ -39,16 +39,17 @@ module _ (s : Store) (d : Day) (l : List ℕ) (t : Tally) (out : List ℕ) (e : 
 
   -- the answer to an event with a list that breaks the rules
   abbrev bad : Answer
-  bad = cond (tooFew s l out) NoRoom (firstOf (talliedAnswer (siteIn s) l t e) BadWindows)
+  bad = cond (lentTooShort s l out) NoRoom (firstRefusal (talliedAnswer (siteIn s) l t e) BadWindows)
 
   bad-answer : (vs : List Window) → listOk nodes (d .length) vs ≡ false → stepAnswer s d l vs t out e ≡ bad
   unfolding stepAnswer keptAnswer
-  bad-answer vs h = ap (λ (b : Bool). cond (tooFew s l out) NoRoom (firstOf (talliedAnswer (siteIn s) l t e) (cond b Done BadWindows))) h
+  bad-answer vs h = ap (λ (b : Bool). cond (lentTooShort s l out) NoRoom
+      (firstRefusal (talliedAnswer (siteIn s) l t e) (cond b Done BadWindows))) h
 
-  bad-refuses : (vs : List Window) → listOk nodes (d .length) vs ≡ false → isAccepted s d l vs t out e ≡ false
-  bad-refuses vs h = ap isDone (bad-answer vs h) ∙ go (tooFew s l out)
+  bad-refuses : (vs : List Window) → listOk nodes (d .length) vs ≡ false → stepAccepted s d l vs t out e ≡ false
+  bad-refuses vs h = ap isDone (bad-answer vs h) ∙ go (lentTooShort s l out)
     where
-      go : (b : Bool) → isDone (cond b NoRoom (firstOf (talliedAnswer (siteIn s) l t e) BadWindows)) ≡ false
+      go : (b : Bool) → isDone (cond b NoRoom (firstRefusal (talliedAnswer (siteIn s) l t e) BadWindows)) ≡ false
       go true = refl
       go false = first-refuses (talliedAnswer (siteIn s) l t e) BadWindows refl
 

@@ -13,18 +13,18 @@ pub record Call : Type 0 where
   pub windows : List Window
 
 -- a site with its day, and the packet area lent with it
-pub record TimedWorld : Type 0 where
+pub record TimedState : Type 0 where
   pub timed : Timed
   pub area : List ℕ
 
 -- after one call
-abbrev pub afterCall : TimedWorld → Call → TimedWorld
+abbrev pub afterCall : TimedState → Call → TimedState
 afterCall w c = record {
   timed = timedAfter (w .timed) (w .area) (c .windows) (c .event);
   area = areaAfter (w .timed .site) (w .area) (c .event);
 }
 
 -- after a list of calls
-unfoldable pub runCalls : TimedWorld → List Call → TimedWorld
+unfoldable pub runCalls : TimedState → List Call → TimedState
 runCalls w [] = w
 runCalls w (c ∷ cs) = runCalls (afterCall w c) cs

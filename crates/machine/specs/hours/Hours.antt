@@ -40,8 +40,8 @@ firstEpoch D = record { length = D; epoch = 0 }
 abbrev pub epochAfter : Day → ℕ
 epochAfter d = cond (leb (d .length) (d .epoch + 1)) 0 (d .epoch + 1)
 
-abbrev pub nextEpoch : Day → Day
-nextEpoch d = record { length = d .length; epoch = epochAfter d }
+abbrev pub nextInDay : Day → Day
+nextInDay d = record { length = d .length; epoch = epochAfter d }
 
 -- the member of number j as epoch e begins: where the node isn't down, its demand is the one due; the request stays
 abbrev pub givenMember : List Window → ℕ → ℕ → Member → Member
@@ -95,7 +95,7 @@ givenBefore t ws e = cond (beginsEpoch t e) (givenSite ws (epochAfter (t .day)) 
 
 -- the day after an accepted event
 abbrev pub nextDay : Timed → Event → Day
-nextDay t e = cond (beginsEpoch t e) (nextEpoch (t .day)) (t .day)
+nextDay t e = cond (beginsEpoch t e) (nextInDay (t .day)) (t .day)
 
 -- the site with its day after an accepted event
 unfoldable pub nextTimed : Timed → List ℕ → List Window → Event → Timed

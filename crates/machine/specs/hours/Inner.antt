@@ -8,14 +8,14 @@ use Rattle.site.specs.declared.Event.{Event}
 use Rattle.windows.specs.Windows.{listOk}
 use Rattle.windows.specs.declared.Window.{Window}
 use Rattle.machine.specs.Layout.{Store}
-use Rattle.machine.specs.Loading.{channelRead}
-use Rattle.machine.specs.hours.Hours.{nextEpoch, inLastRound}
+use Rattle.machine.specs.Loading.{headerRead}
+use Rattle.machine.specs.hours.Hours.{nextInDay, inLastRound}
 use Rattle.machine.specs.declared.Day.{Day}
 
 -- the day after an accepted end of a site
 abbrev pub dayBegun : Site → Day → Day
-dayBegun s d = cond (inLastRound s) (nextEpoch d) d
+dayBegun s d = cond (inLastRound s) (nextInDay d) d
 
 -- what an event's list is found to be: only an end looks at it
-abbrev pub verdict : Store → Day → List Window → Event → Bool
-verdict s d ws e = cond (isEnd e) (listOk (channelRead s .config .nodes) (d .length) ws) true
+abbrev pub listVerdict : Store → Day → List Window → Event → Bool
+listVerdict s d ws e = cond (isEnd e) (listOk (headerRead s .config .nodes) (d .length) ws) true

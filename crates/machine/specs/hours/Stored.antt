@@ -24,7 +24,7 @@ use Rattle.machine.specs.Loading.{memberRead, loadedStore}
 use Rattle.machine.specs.hours.Hours.{Timed, firstEpoch, epochAfter, givenTable, timedLoadAnswer, loadedTimed, beginsEpoch}
 use Rattle.machine.specs.hours.Hours.{answerBy, timedAnswer, nextDay, timedAfter}
 use Rattle.machine.specs.declared.Day.{Day}
-use Rattle.machine.specs.declared.Turned.{Turned}
+use Rattle.machine.specs.declared.DayAnswer.{DayAnswer}
 
 -- the site with its day that storage stands for
 abbrev pub timedIn : Store → Day → Timed
@@ -43,7 +43,7 @@ unfoldable pub timedLoadedSite : Store → Config → Table → ℕ → List Win
 timedLoadedSite s f t D ws = cond (isDone (storedLoadAnswer s f t D ws)) (loadedTimed f t D ws .site) (siteIn s)
 
 -- the answer, and the day with which the site begins
-abbrev pub storedLoad : Store → Config → Table → ℕ → List Window → Turned
+abbrev pub storedLoad : Store → Config → Table → ℕ → List Window → DayAnswer
 storedLoad s f t D ws = record { answer = storedLoadAnswer s f t D ws; day = firstEpoch D }
 
 -- the demand of epoch e for the node at index i, as a want of the storage: one byte
@@ -63,8 +63,8 @@ unfoldable pub storedDay : Store → Day → List ℕ → List Window → Event 
 storedDay s d area ws e = cond (tooShort s) d (timedAfter (timedIn s d) area ws e .day)
 
 -- the answer with the day
-abbrev pub turned : Store → Day → List ℕ → List Window → Event → Turned
-turned s d area ws e = record { answer = storedAnswer s d area ws e; day = storedDay s d area ws e }
+abbrev pub dayAnswer : Store → Day → List ℕ → List Window → Event → DayAnswer
+dayAnswer s d area ws e = record { answer = storedAnswer s d area ws e; day = storedDay s d area ws e }
 
 -- where the next epoch begins, its demands are given before the end
 abbrev pub begunStore : Store → Day → List ℕ → List Window → Event → Store
@@ -86,7 +86,7 @@ answeredBy ok s area e = cond (tooShort s) NoRoom (answerBy ok (siteIn s) area e
 unfoldable pub dayBy : Bool → Store → Day → List ℕ → Event → Day
 dayBy ok s d area e = cond (isDone (answeredBy ok s area e)) (nextDay (timedIn s d) e) d
 
-abbrev pub turnedBy : Bool → Store → Day → List ℕ → Event → Turned
+abbrev pub turnedBy : Bool → Store → Day → List ℕ → Event → DayAnswer
 turnedBy ok s d area e = record { answer = answeredBy ok s area e; day = dayBy ok s d area e }
 
 unfoldable pub storeBy : Bool → Store → Day → List ℕ → List Window → Event → Store

@@ -21,24 +21,24 @@ use Rattle.site.specs.Model.{Site}
 use Rattle.machine.specs.Layout.{Store, siteIn}
 use Rattle.machine.specs.steps.After.{storageAnswer}
 use Rattle.machine.specs.Loading.{memberRead}
-use Rattle.machine.specs.declared.Told.{Told}
+use Rattle.machine.specs.declared.NodeReport.{NodeReport}
 use Rattle.machine.specs.declared.Report.{Report}
 
 -- nothing is reported
-abbrev pub untold : Told
-untold = record { live = false; ground = record { rule = RequestMissing; missing = 0 } }
+abbrev pub noNodeReport : NodeReport
+noNodeReport = record { live = false; ground = record { rule = RequestMissing; missing = 0 } }
 
 -- of no node
 abbrev pub noReport : Report
-noReport = record { told = replicate 32 untold }
+noReport = record { told = replicate 32 noNodeReport }
 
 -- what a member reports, where a close was accepted
-unfoldable pub toldBy : Bool → Member → Told
-toldBy accepted m = cond (accepted && isLive m) (record { live = true; ground = groundOf (m .node) }) untold
+unfoldable pub memberReport : Bool → Member → NodeReport
+memberReport accepted m = cond (accepted && isLive m) (record { live = true; ground = groundOf (m .node) }) noNodeReport
 
 -- the reports of all members, that of node j at index j - 1
 unfoldable pub reportOf : Bool → List Member → Report
-reportOf accepted ms = record { told = tab 32 (λ i. toldBy accepted (getD ms i nobody)) }
+reportOf accepted ms = record { told = tab 32 (λ i. memberReport accepted (getD ms i nobody)) }
 
 -- whether an event is a close, and its answer accepts it
 abbrev pub closesWith : Event → Answer → Bool
@@ -52,22 +52,22 @@ abbrev pub reportedIn : Store → List ℕ → Event → Bool
 reportedIn s area e = closesWith e (storageAnswer s area e)
 
 -- what node j of it reports; a number of none of the N nodes nothing
-unfoldable pub toldIn : Store → List ℕ → Event → ℕ → Told
-toldIn s area e j = toldBy (reportedIn s area e) (memberRead s j)
+unfoldable pub nodeReportIn : Store → List ℕ → Event → ℕ → NodeReport
+nodeReportIn s area e j = memberReport (reportedIn s area e) (memberRead s j)
 
 -- a report in bytes: of node j at 2 * (j - 1) the rule's number, and behind it the lowest missing node, as a box's close gives them;
 -- both are 0 of a node that reports nothing
-abbrev pub toldByte : Told → ℕ → ℕ
-toldByte t k = cond (eqb k 0) (cond (t .live) (ruleNumber (t .ground .rule)) 0) (t .ground .missing)
+abbrev pub reportByte : NodeReport → ℕ → ℕ
+reportByte t k = cond (eqb k 0) (cond (t .live) (ruleNumber (t .ground .rule)) 0) (t .ground .missing)
 
-abbrev pub reportSize : ℕ
-reportSize = 64
+abbrev pub reportsSize : ℕ
+reportsSize = 64
 
 unfoldable pub reportBytes : Report → List ℕ
-reportBytes r = tab reportSize (λ k. toldByte (getD (r .told) (k / 2) untold) (k % 2))
+reportBytes r = tab reportsSize (λ k. reportByte (getD (r .told) (k / 2) noNodeReport) (k % 2))
 
 -- an output after an event: the report of an accepted close stands at the start of an output that has room for it, and no other byte
 -- changes
 unfoldable pub putReport : Store → List ℕ → Event → List ℕ → List ℕ
-putReport s area e out = cond (leb reportSize (length out) && reportedIn s area e)
+putReport s area e out = cond (leb reportsSize (length out) && reportedIn s area e)
     (written out 0 (reportBytes (reportOf true (siteIn s .members)))) out

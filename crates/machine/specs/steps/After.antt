@@ -8,7 +8,7 @@ use Rattle.node.specs.Answers.{isDone}
 use Rattle.node.specs.Negotiation.{packetOf}
 use Rattle.node.specs.declared.Answer.{Answer}
 use Rattle.node.specs.declared.Answer.the-variants.{NoRoom}
-use Rattle.site.specs.Members.{channelOf, memberAt, downMember}
+use Rattle.site.specs.Members.{headerOf, memberAt, downMember}
 use Rattle.site.specs.Parts.{packetPart}
 use Rattle.site.specs.Answers.{answerHeard, answerOf}
 use Rattle.site.specs.Steps.{stored, heardMember, wantedMember, restartedMember, siteAfter, areaAfter}
@@ -27,7 +27,7 @@ abbrev pub heardPart : Store → List ℕ → ℕ → Store
 heardPart s part j = writtenFront s (j - 1) (heardMember part (storedIn s (j - 1)))
 
 unfoldable pub heardStore : Store → List ℕ → ℕ → ℕ → Store
-heardStore s area j p = heardPart s (packetPart (channelOf (siteIn s)) area p) j
+heardStore s area j p = heardPart s (packetPart (headerOf (siteIn s)) area p) j
 
 unfoldable pub takenStore : Store → ℕ → ℕ → Store
 takenStore s j i = takenAt s (j - 1) (i - 1)
@@ -39,7 +39,7 @@ unfoldable pub crashedStore : Store → ℕ → Store
 crashedStore s j = writtenFree s (j - 1) (downMember (configIn s) j)
 
 unfoldable pub restartedStore : Store → ℕ → ℕ → Store
-restartedStore s j flags = writtenFree s (j - 1) (restartedMember (channelOf (siteIn s)) j flags)
+restartedStore s j flags = writtenFree s (j - 1) (restartedMember (headerOf (siteIn s)) j flags)
 
 -- the storage after an accepted event
 abbrev pub nextStore : Store → List ℕ → Event → Store
@@ -70,7 +70,7 @@ areaWith s area e = cond (tooShort s) area (areaAfter (siteIn s) area e)
 -- Where packets lie by another rule than one behind another (crates/sites): a hear of packet p whose bytes are these, and a send into the
 -- part of an index.
 unfoldable pub siteHeard : Site → List ℕ → ℕ → ℕ → Answer
-siteHeard s part j p = answerHeard (channelOf s) part (memberAt s j) j p
+siteHeard s part j p = answerHeard (headerOf s) part (memberAt s j) j p
 
 -- 15 for storage that is too short, before anything else
 unfoldable pub partAnswer : Store → List ℕ → ℕ → ℕ → Answer

@@ -22,8 +22,8 @@ pub record Kept : Type 0 where
   pub tally : Tally
 
 -- the first of two answers that refuses
-abbrev pub firstOf : Answer → Answer → Answer
-firstOf a b = cond (isDone a) b a
+abbrev pub firstRefusal : Answer → Answer → Answer
+firstRefusal a b = cond (isDone a) b a
 
 -- whether the list keeps the rules for the site's nodes and its day
 abbrev pub listFits : Kept → List Window → Bool
@@ -31,7 +31,7 @@ listFits k ws = listOk (k .timed .site .config .nodes) (k .timed .day .length) w
 
 -- the answer of the site with its tally, to an end 14 where nothing else is refused; then 16, to any event
 unfoldable pub keptAnswer : Kept → List Window → Event → Answer
-keptAnswer k ws e = firstOf (talliedAnswer (k .timed .site) (k .area) (k .tally) e) (cond (listFits k ws) Done BadWindows)
+keptAnswer k ws e = firstRefusal (talliedAnswer (k .timed .site) (k .area) (k .tally) e) (cond (listFits k ws) Done BadWindows)
 
 -- an accepted event: with an end that begins an epoch its demands are given first, and the site behind an end is counted
 unfoldable pub nextKept : Kept → List Window → Event → Kept

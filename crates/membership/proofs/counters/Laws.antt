@@ -22,67 +22,70 @@ pub plus-le : (x : ℕ) (t : Bool) → plus x t ≤ x + 1
 plus-le x true = by-test (λ (y : ℕ). y ≤ x + 1) (ltb x 255) (x + 1) x (λ e. omega arith) (λ e. omega arith)
 plus-le x false = omega arith
 
-pub getD-counted : (counts : List ℕ) (heard i : ℕ) → i < 32 → getD (counted counts heard) i 0 ≡ plus (getD counts i 0) (hasBit heard i)
+pub getD-counted : (counters : List ℕ) (heard i : ℕ) → i < 32 → getD (counted counters heard) i 0
+    ≡ plus (getD counters i 0) (hasBit heard i)
 unfolding counted
-getD-counted counts heard i l = getD-tab 0 32 (λ i. plus (getD counts i 0) (hasBit heard i)) i l
+getD-counted counters heard i l = getD-tab 0 32 (λ i. plus (getD counters i 0) (hasBit heard i)) i l
 
-pub length-counted : (counts : List ℕ) (heard : ℕ) → length (counted counts heard) ≡ 32
+pub length-counted : (counters : List ℕ) (heard : ℕ) → length (counted counters heard) ≡ 32
 unfolding counted
-length-counted counts heard = length-tab 32 (λ i. plus (getD counts i 0) (hasBit heard i))
+length-counted counters heard = length-tab 32 (λ i. plus (getD counters i 0) (hasBit heard i))
 
 -- nobody was heard
-pub none-counted : (counts : List ℕ) → length counts ≡ 32 → counts ≡ counted counts 0
-none-counted counts h =
-    ext-getD 0 counts (counted counts 0) (h ∙ sym (length-counted counts 0))
-    (λ i l. sym (getD-counted counts 0 i (omega arith) ∙ ap (plus (getD counts i 0)) (hasBit-out 0 0 i (omega arith) (omega arith))))
+pub none-counted : (counters : List ℕ) → length counters ≡ 32 → counters ≡ counted counters 0
+none-counted counters h =
+    ext-getD 0 counters (counted counters 0) (h ∙ sym (length-counted counters 0))
+    (λ i l. sym (getD-counted counters 0 i (omega arith) ∙ ap (plus (getD counters i 0)) (hasBit-out 0 0 i (omega arith) (omega arith))))
 
 -- C_e grows by at most 1, among the N nodes
-pub counted-bounded : (counts : List ℕ) (heard N f : ℕ) → N ≤ 32 → bounded counts N f ≡ true → heard < 2 ^ N
-    → bounded (counted counts heard) N (f + 1) ≡ true
-counted-bounded counts heard N f k b h =
-    bounded-make (counted counts heard) N (f + 1)
+pub counted-bounded : (counters : List ℕ) (heard N f : ℕ) → N ≤ 32 → bounded counters N f ≡ true → heard < 2 ^ N
+    → bounded (counted counters heard) N (f + 1) ≡ true
+counted-bounded counters heard N f k b h =
+    bounded-make (counted counters heard) N (f + 1)
     (λ i l.
-    let x : getD counts i 0 ≤ f = bounded-at counts N f b i in
-    let y = plus-le (getD counts i 0) (hasBit heard i) in
-    let z = getD-counted counts heard i (omega arith) in
+    let x : getD counters i 0 ≤ f = bounded-at counters N f b i in
+    let y = plus-le (getD counters i 0) (hasBit heard i) in
+    let z = getD-counted counters heard i (omega arith) in
     omega arith)
     (λ i l. go i l (ltb i 32) refl)
   where
-    go : (i : ℕ) → N ≤ i → (t : Bool) → ltb i 32 ≡ t → getD (counted counts heard) i 0 ≡ 0
-    go i l true e = getD-counted counts heard i (ltb-true i 32 e) ∙ ap₂ plus (bounded-over counts N f b i l) (hasBit-out heard N i h l)
-    go i l false e = List·getD-eq-default (counted counts heard) 0 {n = i}
-        (let m = length-counted counts heard in let o : 32 ≤ i = ltb-false i 32 e in omega arith)
+    go : (i : ℕ) → N ≤ i → (t : Bool) → ltb i 32 ≡ t → getD (counted counters heard) i 0 ≡ 0
+    go i l true e = getD-counted counters heard i (ltb-true i 32 e) ∙ ap₂ plus (bounded-over counters N f b i l) (hasBit-out heard N i h l)
+    go i l false e = List·getD-eq-default (counted counters heard) 0 {n = i}
+        (let m = length-counted counters heard in let o : 32 ≤ i = ltb-false i 32 e in omega arith)
 
 -- the next flags are of the N nodes
-pub members-below : (counts : List ℕ) (node heard N : ℕ) → N ≤ 32 → node ≤ N → 1 ≤ heard → ((i : ℕ) → N ≤ i → i < 32 → getD counts i 0 ≡ 0)
-    → membersOf counts node heard < 2 ^ N
+pub members-below : (counters : List ℕ) (node heard N : ℕ) → N ≤ 32 → node ≤ N → 1 ≤ heard
+    → ((i : ℕ) → N ≤ i → i < 32 → getD counters i 0 ≡ 0)
+    → membersOf counters node heard < 2 ^ N
 unfolding membersOf
-members-below counts node heard N k h o z =
-    wordOf-below N 32 (λ i. leb heard (getD counts i 0) || eqb (i + 1) node) k
+members-below counters node heard N k h o z =
+    wordOf-below N 32 (λ i. leb heard (getD counters i 0) || eqb (i + 1) node) k
     (λ i l m. ap₂ _||_ (ap (leb heard) (z i l m) ∙ lt-leb heard 0 o) (ne-eqb (i + 1) node (λ e. omega arith)))
 
 -- and the own flag is one of them
-pub members-own : (counts : List ℕ) (node heard : ℕ) → 1 ≤ node → node ≤ 32 → isIn (membersOf counts node heard) node ≡ true
+pub members-own : (counters : List ℕ) (node heard : ℕ) → 1 ≤ node → node ≤ 32 → isIn (membersOf counters node heard) node ≡ true
 unfolding membersOf
-members-own counts node heard a b =
+members-own counters node heard a b =
     both (lt-ltb 0 node a)
-    (hasBit-wordOf 32 (λ i. leb heard (getD counts i 0) || eqb (i + 1) node) (node - 1) (omega arith)
-    ∙ or-back (leb heard (getD counts (node - 1) 0)) (eqb (node - 1 + 1) node) (eq-eqb (node - 1 + 1) node (omega arith)))
+    (hasBit-wordOf 32 (λ i. leb heard (getD counters i 0) || eqb (i + 1) node) (node - 1) (omega arith)
+    ∙ or-back (leb heard (getD counters (node - 1) 0)) (eqb (node - 1 + 1) node) (eq-eqb (node - 1 + 1) node (omega arith)))
 
 -- who is in the next flags: whoever was heard at least so often, and the node itself
-pub members-has : (counts : List ℕ) (node heard i : ℕ) → i < 32
-    → hasBit (membersOf counts node heard) i ≡ (leb heard (getD counts i 0) || eqb (i + 1) node)
+pub members-has : (counters : List ℕ) (node heard i : ℕ) → i < 32
+    → hasBit (membersOf counters node heard) i ≡ (leb heard (getD counters i 0) || eqb (i + 1) node)
 unfolding membersOf
-members-has counts node heard i l = hasBit-wordOf 32 (λ i. leb heard (getD counts i 0) || eqb (i + 1) node) i l
+members-has counters node heard i l = hasBit-wordOf 32 (λ i. leb heard (getD counters i 0) || eqb (i + 1) node) i l
 
-pub members-lt : (counts : List ℕ) (node heard : ℕ) → membersOf counts node heard < 2 ^ 32
+pub members-lt : (counters : List ℕ) (node heard : ℕ) → membersOf counters node heard < 2 ^ 32
 unfolding membersOf
-members-lt counts node heard = wordOf-lt 32 (λ i. leb heard (getD counts i 0) || eqb (i + 1) node)
+members-lt counters node heard = wordOf-lt 32 (λ i. leb heard (getD counters i 0) || eqb (i + 1) node)
 
 -- with `heard` 1 these are the nodes that were heard at all, and the node itself: lines 51 to 54 as the paper has them
-pub members-once : (counts : List ℕ) (node : ℕ) → membersOf counts node 1 ≡ wordOf 32 (λ i. ltb 0 (getD counts i 0) || eqb (i + 1) node)
+pub members-once : (counters : List ℕ) (node : ℕ) → membersOf counters node 1
+    ≡ wordOf 32 (λ i. ltb 0 (getD counters i 0) || eqb (i + 1) node)
 unfolding membersOf
-members-once counts node = wordOf-ext 32 _ _ (λ i l. ap (λ (t : Bool). t || eqb (i + 1) node) (once (getD counts i 0)))
+members-once counters node = wordOf-ext 32 _ _ (λ i l. ap (λ (t : Bool). t || eqb (i + 1) node) (once (getD counters i 0)))
   where
     once : (x : ℕ) → leb 1 x ≡ ltb 0 x
     once x = go (ltb 0 x) refl
@@ -107,8 +110,9 @@ left-top x true b h = refl
 left-top x false b h = omega arith
 
 -- the counters as the next round begins
-pub kept-tab : (counts : List ℕ) (t : Bool) → length counts ≡ 32 → tab 32 (λ i. cond t 0 (getD counts i 0)) ≡ cond t (replicate 32 0) counts
+pub kept-tab : (counters : List ℕ) (t : Bool) → length counters ≡ 32 → tab 32 (λ i. cond t 0 (getD counters i 0))
+    ≡ cond t (replicate 32 0) counters
 unfolding tab
-kept-tab counts true h = refl
-kept-tab counts false h = ext-getD 0 _ counts (length-tab 32 (λ i. getD counts i 0) ∙ sym h)
-    (λ i l. getD-tab 0 32 (λ i. getD counts i 0) i (let m = length-tab 32 (λ i. getD counts i 0) in omega arith))
+kept-tab counters true h = refl
+kept-tab counters false h = ext-getD 0 _ counters (length-tab 32 (λ i. getD counters i 0) ∙ sym h)
+    (λ i l. getD-tab 0 32 (λ i. getD counters i 0) i (let m = length-tab 32 (λ i. getD counters i 0) in omega arith))

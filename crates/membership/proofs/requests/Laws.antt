@@ -22,7 +22,7 @@ use Rattle.lists.specs.All.{tab}
 use Rattle.allotment.specs.Allotment.{topRequest}
 use Rattle.membership.specs.requests.Requests.{none, hasRequest, requesters, noRequests, only, entryOf, firstKnown, union, agreeAt}
 use Rattle.membership.specs.requests.Requests.{agree}
-use Rattle.membership.specs.requests.Requests.{requestWithin, requestsWithin, firstOf}
+use Rattle.membership.specs.requests.Requests.{requestWithin, requestsWithin, firstWith}
 
 -- who has a request
 pub requesters-has : (l : List ℕ) (i : ℕ) → i < 32 → hasBit (requesters l) i ≡ hasRequest l i
@@ -164,26 +164,26 @@ within-only j r w m h = within-make (only j r) w (λ i l. go i l (eqb i (j - 1))
     go i l false e = or-front _ _ (eq-eqb (getD (only j r) i 0) none (only-other j r i l (eqb-false i (j - 1) e)))
 
 -- the first of some nodes: it is the next one, or it is behind that
-pub first-here : (p : ℕ → Bool) (n i : ℕ) → i < n → p i ≡ true → firstOf (n - i) i p ≡ i + 1
-unfolding firstOf
+pub first-here : (p : ℕ → Bool) (n i : ℕ) → i < n → p i ≡ true → firstWith (n - i) i p ≡ i + 1
+unfolding firstWith
 first-here p n i l h = go (n - i) refl
   where
-    go : (k : ℕ) → n - i ≡ k → firstOf k i p ≡ i + 1
+    go : (k : ℕ) → n - i ≡ k → firstWith k i p ≡ i + 1
     go zero e = absurd (omega arith)
     go (suc k) e = hit _ _ _ h
 
-pub first-behind : (p : ℕ → Bool) (n i : ℕ) → i < n → p i ≡ false → firstOf (n - i) i p ≡ firstOf (n - (i + 1)) (i + 1) p
-unfolding firstOf
+pub first-behind : (p : ℕ → Bool) (n i : ℕ) → i < n → p i ≡ false → firstWith (n - i) i p ≡ firstWith (n - (i + 1)) (i + 1) p
+unfolding firstWith
 first-behind p n i l h = go (n - i) refl
   where
-    go : (k : ℕ) → n - i ≡ k → firstOf k i p ≡ firstOf (n - (i + 1)) (i + 1) p
+    go : (k : ℕ) → n - i ≡ k → firstWith k i p ≡ firstWith (n - (i + 1)) (i + 1) p
     go zero e = absurd (omega arith)
     go (suc k) e =
         let z : k ≡ n - (i + 1) = omega arith in
-        skip _ _ _ _ h (ap (λ (m : ℕ). firstOf m (i + 1) p) z)
+        skip _ _ _ _ h (ap (λ (m : ℕ). firstWith m (i + 1) p) z)
 
-pub first-none : (p : ℕ → Bool) (i : ℕ) → firstOf 0 i p ≡ 0
-unfolding firstOf
+pub first-none : (p : ℕ → Bool) (i : ℕ) → firstWith 0 i p ≡ 0
+unfolding firstWith
 first-none p i = refl
 
 -- node j alone, entry by entry

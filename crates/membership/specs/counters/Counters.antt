@@ -16,7 +16,7 @@ plus x true = cond (ltb x 255) (x + 1) x
 
 -- line 31: C_e grows by C_r
 unfoldable pub counted : List ℕ → ℕ → List ℕ
-counted counts heard = tab 32 (λ i. plus (getD counts i 0) (hasBit heard i))
+counted counters heard = tab 32 (λ i. plus (getD counters i 0) (hasBit heard i))
 
 -- a set and the node of number j: a union, so that a node of the set counts once
 unfoldable pub withSelf : ℕ → ℕ → ℕ
@@ -24,4 +24,4 @@ withSelf w j = cond (ltb 0 j) (withBit w (j - 1)) w
 
 -- lines 51 to 54: the nodes with C_e of at least `heard`, and node i itself, also below it. `heard` is the C_min of line 51 (S-9)
 unfoldable pub membersOf : List ℕ → ℕ → ℕ → ℕ
-membersOf counts node heard = wordOf 32 (λ i. leb heard (getD counts i 0) || eqb (i + 1) node)
+membersOf counters node heard = wordOf 32 (λ i. leb heard (getD counters i 0) || eqb (i + 1) node)

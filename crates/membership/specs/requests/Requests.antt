@@ -63,10 +63,10 @@ abbrev pub lacks : ℕ → List ℕ → ℕ → Bool
 lacks w l i = hasBit w i && eqb (getD l i 0) none
 
 -- the number of the first node that has p among the k from index i on; 0 for none
-unfoldable pub firstOf : ℕ → ℕ → (ℕ → Bool) → ℕ
-firstOf zero i p = 0
-firstOf (suc k) i p = cond (p i) (i + 1) (firstOf k (i + 1) p)
+unfoldable pub firstWith : ℕ → ℕ → (ℕ → Bool) → ℕ
+firstWith zero i p = 0
+firstWith (suc k) i p = cond (p i) (i + 1) (firstWith k (i + 1) p)
 
 -- the lowest node of a set that has no request; 0 for none
 unfoldable pub lowestMissing : ℕ → List ℕ → ℕ
-lowestMissing w l = firstOf 32 0 (lacks w l)
+lowestMissing w l = firstWith 32 0 (lacks w l)

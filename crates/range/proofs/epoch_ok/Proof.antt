@@ -14,7 +14,7 @@ use Rattle.range.proofs.epoch_ok.Statement.{statement}
 use Rattle.range.proofs.epoch_ok.Tie as tie
 
 -- the counters are 32, also behind the first test
-long : (c : tie.Start) → length (c .args .c .counts) ≡ 32
+long : (c : tie.Start) → length (c .args .c .counters) ≡ 32
 long c = search needs
 
 returns : tie.Need-returns
@@ -38,7 +38,7 @@ unfolding epochOk
 returns-2 c =
     let n = c .before .before .before .before .before .before .before .before .before .before .before .args .c in
     let may = not (n .updated) || ltb (n .version) topVersion in
-    both (both (c .before .before .before .all-fit .ensures ∙ ap (bounded (n .counts) (n .setup .config .nodes))
+    both (both (c .before .before .before .all-fit .ensures ∙ ap (bounded (n .counters) (n .setup .config .nodes))
     (c .before .before .before .before .closes-of .ensures)) (c .before .before .below .ensures))
     (sym (both (free-ok (n .updated) (n .setup)) (is may)))
     ∙ sym (both (lt-ltb _ _ (c .before .before .before .before .before .before .if1 .left)) (is _))

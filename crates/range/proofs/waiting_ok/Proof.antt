@@ -14,7 +14,8 @@ returns : tie.Need-returns
 unfolding waitingOk
 returns c =
     let n = c .before .before .before .before .before .before .args .c in
-    both (is (eqb (n .version) 0 && eqb (n .request) 0)) (both (is (eqb (n .met) 0 && not (n .updated))) (c .round-lapsed .ensures))
+    both (is (eqb (n .version) 0 && eqb (n .request) 0))
+    (both (is (eqb (n .interactions) 0 && not (n .updated))) (c .round-lapsed .ensures))
 
 pub waiting-ok-spec : {M : Type 1} → statement M
 waiting-ok-spec = tie.close (tie.spec round-lapsed-requires returns)

@@ -2,7 +2,7 @@ use mathlib.Core.Path.{sym, _∙_, subst}
 use native.Mathlib.Omega.{arith}
 use borrow.Author.Tests.{not-false}
 use Rattle.machine.specs.Layout.{store}
-use Rattle.desk.specs.listings.Inner.{worldIn}
+use Rattle.desk.specs.listings.Inner.{runStateIn}
 use Rattle.reduce.specs.Inner.{Spared}
 use Rattle.reduce.proofs.Passed.{spared-none, spared-cut}
 use borrow.Author.Needs.{needs}
@@ -65,7 +65,7 @@ returns-4 c =
     let a = c17 .args in
     let k = c5 .copy-gives in
     subst (Spared (a .number) (a .script .now) (a .marks .now) (a .from)
-    (worldIn (store (a .words .now) (a .bytes .now)) (a .day) (a .area .now))) (sym (c .before .before .clear .ensures))
+    (runStateIn (store (a .words .now) (a .bytes .now)) (a .day) (a .area .now))) (sym (c .before .before .clear .ensures))
     (spared-cut _ _ _ _ _ (a .hi) (sym (k .ensures) ∙ not-false (k .result) (c4 .if3 .left)))
 
 pub attempt-from-spec : {M : Type 1} → statement M

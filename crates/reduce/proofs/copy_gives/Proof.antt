@@ -3,9 +3,9 @@ use Prim.Native.Nat.{ℕ}
 use lib.ListN.{drop, length-replicate}
 use Rattle.text.specs.Read.{split}
 use Rattle.machine.specs.Layout.{store}
-use Rattle.desk.specs.listings.Inner.{worldIn}
+use Rattle.desk.specs.listings.Inner.{runStateIn}
 use Rattle.reduce.specs.Reduced.{gives}
-use Rattle.reduce.specs.Inner.{placed, keep, isKept}
+use Rattle.reduce.specs.Inner.{placedLines, keep, isKept}
 use Rattle.reduce.proofs.Copies.{whole-put}
 use borrow.Author.Needs.{needs}
 use Rattle.reduce.proofs.copy_gives.Statement.{statement}
@@ -55,8 +55,8 @@ returns c =
     let b = whole-put (length-replicate {A = ℕ} _ 0 ∙ sym (p .2)) (c11 .put-bytes .ensures) in
     let r = whole-put (length-replicate {A = ℕ} _ 0 ∙ sym (p .3)) (c8 .put-bytes2 .ensures) in
     c .before .before .before .run-gives .ensures
-    ∙ (λ i. gives (a .number) (worldIn (store (w i) (b i)) (a .day) (r i))
-    (keep (isKept (a .marks .now) (a .from) (a .hi)) (placed (a .from) (split 10 (drop (a .from) (a .script .now))))))
+    ∙ (λ i. gives (a .number) (runStateIn (store (w i) (b i)) (a .day) (r i))
+    (keep (isKept (a .marks .now) (a .from) (a .hi)) (placedLines (a .from) (split 10 (drop (a .from) (a .script .now))))))
 
 pub copy-gives-spec : {M : Type 1} → statement M
 copy-gives-spec =

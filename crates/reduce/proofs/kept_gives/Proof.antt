@@ -1,8 +1,8 @@
 use mathlib.Core.Path.{ap, _∙_}
 use Rattle.machine.specs.Layout.{store}
-use Rattle.machine.specs.hours.Calls.{TimedWorld}
+use Rattle.machine.specs.hours.Calls.{TimedState}
 use Rattle.reduce.specs.Reduced.{gives}
-use Rattle.reduce.specs.Inner.{keptIn}
+use Rattle.reduce.specs.Inner.{keptLines}
 use Rattle.reduce.proofs.Start.{begins}
 use borrow.Author.Needs.{needs}
 use Rattle.reduce.proofs.kept_gives.Statement.{statement}
@@ -39,7 +39,7 @@ returns c =
     let a = c18 .args in
     let o = c10 .load in
     c .before .before .before .run-gives .ensures
-    ∙ ap (λ (w : TimedWorld). gives (a .number) w (keptIn (a .script .now) (a .o) (a .marks .now) (a .lo) (a .hi)))
+    ∙ ap (λ (w : TimedState). gives (a .number) w (keptLines (a .script .now) (a .o) (a .marks .now) (a .lo) (a .hi)))
     (begins (a .o) _ (store (o .last .0) (o .last .1 .0)) (c18 .pre .loads) (o .ensures .0) (o .ensures .1 .1 .1))
 
 pub kept-gives-spec : {M : Type 1} → statement M

@@ -5,8 +5,8 @@ use lib.ListN.{length, drop}
 use Rattle.lists.proofs.Chain.{Left, start, step, end, finish-by, leftover}
 use Rattle.text.specs.Read.{split}
 use Rattle.script.proofs.lines.Lines.{whole}
-use Rattle.reduce.specs.Reduced.{joined}
-use Rattle.reduce.specs.Inner.{placed, keep, isKept}
+use Rattle.reduce.specs.Reduced.{joinedLines}
+use Rattle.reduce.specs.Inner.{placedLines, keep, isKept}
 use Rattle.reduce.proofs.Writing.{kept-none, kept-open, kept-line}
 use borrow.Author.Needs.{needs}
 use Rattle.reduce.proofs.put_kept.Statement.{statement}
@@ -15,8 +15,8 @@ use Rattle.reduce.proofs.put_kept.Tie as tie
 abbrev Inv-loop : tie.InvT-loop
 Inv-loop script from marks out₀ to at₀ pos₀ out at pos =
     (at ≤ length script)
-    × Left out₀ to (joined (keep (isKept marks 0 0) (placed from (split 10 (drop from script))))) out pos
-    (joined (keep (isKept marks 0 0) (placed at (split 10 (drop at script)))))
+    × Left out₀ to (joinedLines (keep (isKept marks 0 0) (placedLines from (split 10 (drop from script))))) out pos
+    (joinedLines (keep (isKept marks 0 0) (placedLines at (split 10 (drop at script)))))
 
 abbrev μ-loop : tie.MeasureT-loop
 μ-loop script from marks out₀ to at₀ pos₀ out at pos = length script - at

@@ -6,9 +6,9 @@ use lib.ListN.{length, drop}
 use Rattle.text.specs.Read.{split}
 use Rattle.machine.specs.Layout.{store}
 use Rattle.script.proofs.lines.Lines.{whole}
-use Rattle.desk.specs.listings.Inner.{worldIn}
+use Rattle.desk.specs.listings.Inner.{runStateIn}
 use Rattle.reduce.specs.Reduced.{gives}
-use Rattle.reduce.specs.Inner.{placed, keep, isKept}
+use Rattle.reduce.specs.Inner.{placedLines, keep, isKept}
 use Rattle.reduce.proofs.Kept.{gives-none, gives-open, gives-hit, gives-next}
 use borrow.Author.Needs.{needs}
 use Rattle.reduce.proofs.run_gives.Statement.{statement}
@@ -17,8 +17,9 @@ use Rattle.reduce.proofs.run_gives.Tie as tie
 abbrev Inv-loop : tie.InvT-loop
 Inv-loop script from marks lo hi words₀ bytes₀ area₀ number day₀ at₀ words bytes area day at =
     (at ≤ length script) × (length words ≡ length words₀) × (length bytes ≡ length bytes₀) × (length area ≡ length area₀)
-    × (gives number (worldIn (store words₀ bytes₀) day₀ area₀) (keep (isKept marks lo hi) (placed from (split 10 (drop from script))))
-    ≡ gives number (worldIn (store words bytes) day area) (keep (isKept marks lo hi) (placed at (split 10 (drop at script)))))
+    × (gives number (runStateIn (store words₀ bytes₀) day₀ area₀)
+    (keep (isKept marks lo hi) (placedLines from (split 10 (drop from script))))
+    ≡ gives number (runStateIn (store words bytes) day area) (keep (isKept marks lo hi) (placedLines at (split 10 (drop at script)))))
 
 abbrev μ-loop : tie.MeasureT-loop
 μ-loop script from marks lo hi words₀ bytes₀ area₀ number day₀ at₀ words bytes area day at = length script - at

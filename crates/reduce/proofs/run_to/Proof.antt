@@ -5,7 +5,7 @@ use native.Mathlib.Omega.{arith}
 use lib.ListN.{length}
 use Rattle.machine.specs.Layout.{store}
 use Rattle.script.proofs.lines.Lines.{whole}
-use Rattle.desk.specs.listings.Inner.{worldIn}
+use Rattle.desk.specs.listings.Inner.{runStateIn}
 use Rattle.reduce.specs.Inner.{Passed}
 use Rattle.reduce.proofs.Passed.{pass-start, pass-next}
 use borrow.Author.Needs.{needs}
@@ -15,7 +15,7 @@ use Rattle.reduce.proofs.run_to.Tie as tie
 abbrev Inv-loop : tie.InvT-loop
 Inv-loop script from stop marks words₀ bytes₀ area₀ number day₀ at₀ words bytes area day at =
     (length words ≡ length words₀) × (length bytes ≡ length bytes₀) × (length area ≡ length area₀)
-    × Passed number script marks from (worldIn (store words₀ bytes₀) day₀ area₀) false at (worldIn (store words bytes) day area)
+    × Passed number script marks from (runStateIn (store words₀ bytes₀) day₀ area₀) false at (runStateIn (store words bytes) day area)
 
 abbrev μ-loop : tie.MeasureT-loop
 μ-loop script from stop marks words₀ bytes₀ area₀ number day₀ at₀ words bytes area day at = length script - at

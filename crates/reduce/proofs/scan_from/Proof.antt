@@ -5,7 +5,7 @@ use Prim.Native.Nat.{ℕ, _≤_, _-_}
 use native.Mathlib.Omega.{arith}
 use lib.ListN.{length}
 use Rattle.machine.specs.Layout.{store}
-use Rattle.desk.specs.listings.Inner.{worldIn}
+use Rattle.desk.specs.listings.Inner.{runStateIn}
 use Rattle.reduce.specs.Inner.{givesFrom, Passed}
 use Rattle.reduce.proofs.Passed.{pass-start, pass-then, pass-hit, pass-spared, still-given}
 use Rattle.reduce.proofs.scan_from.Statement.{statement}
@@ -15,8 +15,8 @@ abbrev Inv-loop : tie.InvT-loop
 Inv-loop script first marks₀ from c words₀ bytes₀ area₀ number day₀ at₀ lo₀ marks words bytes area day at lo =
     (lo ≤ length script) × (length marks ≡ length marks₀) × (length words ≡ length words₀) × (length bytes ≡ length bytes₀)
     × (length area ≡ length area₀)
-    × (givesFrom number script marks first (worldIn (store words₀ bytes₀) day₀ area₀) ≡ true)
-    × Passed number script marks first (worldIn (store words₀ bytes₀) day₀ area₀) false at (worldIn (store words bytes) day area)
+    × (givesFrom number script marks first (runStateIn (store words₀ bytes₀) day₀ area₀) ≡ true)
+    × Passed number script marks first (runStateIn (store words₀ bytes₀) day₀ area₀) false at (runStateIn (store words bytes) day area)
 
 abbrev μ-loop : tie.MeasureT-loop
 μ-loop script first marks₀ from c words₀ bytes₀ area₀ number day₀ at₀ lo₀ marks words bytes area day at lo = length script - lo
@@ -76,7 +76,7 @@ returns c =
     let c24 = c18 .before .before .before .before .before .before in
     let a = c24 .args in
     let l = c18 .loop in
-    let w = worldIn (store (a .words .now) (a .bytes .now)) (a .start) (a .area .now) in
+    let w = runStateIn (store (a .words .now) (a .bytes .now)) (a .start) (a .area .now) in
     ap (λ (m : List ℕ). givesFrom (a .number) (a .script .now) m (a .first) w) (c .before .before .clear .ensures)
     ∙ pass-hit _ _ _ _ _ _ _ _ (pass-then _ _ _ _ _ _ _ _ _ _ (l .inv .6) (c12 .run-to .ensures) true (c4 .if1 .taken))
 

@@ -2,7 +2,7 @@ use mathlib.Core.Path.{sym, ap, _∙_}
 use Prim.Native.Nat.{ℕ}
 use lib.ListN.{length-replicate}
 use Rattle.machine.specs.Layout.{store}
-use Rattle.machine.specs.hours.Calls.{TimedWorld}
+use Rattle.machine.specs.hours.Calls.{TimedState}
 use Rattle.reduce.specs.Inner.{givesFrom}
 use Rattle.reduce.proofs.Start.{begins}
 use borrow.Author.Needs.{needs}
@@ -45,7 +45,7 @@ scan-from-requires c κs =
       o .kept .0 ∙ length-replicate {A = ℕ} _ 0,
       o .kept .1 .0 ∙ length-replicate {A = ℕ} _ 0,
       length-replicate {A = ℕ} _ 0,
-      ap (λ (w : TimedWorld). givesFrom (a .number) (a .script .now) (a .marks .now) (a .o .at) w) g ∙ p .4,
+      ap (λ (w : TimedState). givesFrom (a .number) (a .script .now) (a .marks .now) (a .o .at) w) g ∙ p .4,
     )
 
 same-length : tie.Need-same-length
@@ -61,7 +61,7 @@ returns c =
     let o = c13 .load in
     let g = begins (a .o) _ (store (o .last .0) (o .last .1 .0)) (p .0 .loads) (o .ensures .0) (o .ensures .1 .1 .1) in
     let r = c5 .scan-from in
-    sym (ap (λ (w : TimedWorld). givesFrom (a .number) (a .script .now) (r .last .1 .1 .0) (a .o .at) w) g) ∙ r .ensures
+    sym (ap (λ (w : TimedState). givesFrom (a .number) (a .script .now) (r .last .1 .1 .0) (a .o .at) w) g) ∙ r .ensures
 
 pub scan-ranges-spec : {M : Type 1} → statement M
 scan-ranges-spec =

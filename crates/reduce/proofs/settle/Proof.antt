@@ -2,7 +2,7 @@ use mathlib.Core.Path.{_≡_, refl, _∙_}
 use mathlib.Core.Bool.{true}
 use native.Mathlib.Omega.{arith}
 use lib.ListN.{length}
-use Rattle.reduce.specs.Inner.{givesKept, marked}
+use Rattle.reduce.specs.Inner.{givesKept, markedCount}
 use Rattle.reduce.proofs.settle.Statement.{statement}
 use Rattle.reduce.proofs.settle.Tie as tie
 
@@ -10,7 +10,7 @@ abbrev Inv-loop : tie.InvT-loop
 Inv-loop script o marks₀ number marks = (length marks ≡ length marks₀) × (givesKept number script o marks 0 0 ≡ true)
 
 abbrev μ-loop : tie.MeasureT-loop
-μ-loop script o marks₀ number marks = marked (length script) marks
+μ-loop script o marks₀ number marks = markedCount (length script) marks
 
 loop-holds : tie.Need-loop-holds Inv-loop μ-loop
 loop-holds c = (refl, c .before .before .pre .2)

@@ -6,8 +6,8 @@ use borrow.Author.Tests.{not-true, not-false}
 use Rattle.machine.specs.Layout.{store}
 use Rattle.script.specs.events.Events.{eventOf}
 use Rattle.script.specs.declared.Parsed.{Parsed}
-use Rattle.desk.specs.listings.Inner.{worldIn}
-use Rattle.reduce.specs.Inner.{lineRun, steppedBy}
+use Rattle.desk.specs.listings.Inner.{runStateIn}
+use Rattle.reduce.specs.Inner.{lineRun, trialStepBy}
 use borrow.Author.Needs.{needs}
 use Rattle.reduce.proofs.take_kept.Statement.{statement}
 use Rattle.reduce.proofs.take_kept.Tie as tie
@@ -19,10 +19,10 @@ returns : tie.Need-returns
 returns c =
     let c7 = c .before .before .before .before .before .before .before in
     let a = c7 .args in
-    let x = worldIn (store (a .words .now) (a .bytes .now)) (a .day) (a .area .now) in
+    let x = runStateIn (store (a .words .now) (a .bytes .now)) (a .day) (a .area .now) in
     let q = eventOf (take (a .e - a .at) (drop (a .at) (a .script .now))) in
     let k = sym (c .before .is-kept .ensures) ∙ not-true (c .before .is-kept .result) (c .if1 .taken) in (
-      sym (ap (λ (t : Bool). steppedBy t (a .number) x q) k),
+      sym (ap (λ (t : Bool). trialStepBy t (a .number) x q) k),
       (sym (ap (λ (t : Bool). lineRun t x q .timed .site) k), sym (ap (λ (t : Bool). lineRun t x q .area) k)),
     )
 
@@ -56,12 +56,12 @@ returns-2 c =
     let c13 = c6 .before .before .before .before .before .before .before in
     let c19 = c13 .before .before .before .before .before .before in
     let a = c19 .args in
-    let x = worldIn (store (a .words .now) (a .bytes .now)) (a .day) (a .area .now) in
+    let x = runStateIn (store (a .words .now) (a .bytes .now)) (a .day) (a .area .now) in
     let k = sym (c13 .is-kept .ensures) ∙ not-false (c13 .is-kept .result)
     (c6 .before .before .before .before .before .before .if1 .left) in
     let p = c6 .before .event-line .ensures in
     let o = c6 .take-line .ensures in (
-      o .0 ∙ ap₂ (λ (t : Bool) (q : Parsed). steppedBy t (a .number) x q) (sym k) p,
+      o .0 ∙ ap₂ (λ (t : Bool) (q : Parsed). trialStepBy t (a .number) x q) (sym k) p,
       (
         o .1 .0 ∙ ap₂ (λ (t : Bool) (q : Parsed). lineRun t x q .timed .site) (sym k) p,
         o .1 .1 ∙ ap₂ (λ (t : Bool) (q : Parsed). lineRun t x q .area) (sym k) p,

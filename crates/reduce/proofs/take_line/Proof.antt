@@ -4,15 +4,15 @@ use mathlib.Core.List.{List, []}
 use Rattle.windows.specs.declared.Window.{Window}
 use Rattle.windows.proofs.Copies.{no-words}
 use Rattle.machine.specs.Layout.{store}
-use Rattle.machine.specs.hours.Stored.{turned, timedSite}
-use Rattle.machine.specs.declared.Turned.{Turned}
+use Rattle.machine.specs.hours.Stored.{dayAnswer, timedSite}
+use Rattle.machine.specs.declared.DayAnswer.{DayAnswer}
 use Rattle.machine.proofs.hours.Stored.{as-timed}
 use Rattle.script.specs.declared.Parsed.{Parsed}
 use Rattle.script.specs.declared.Parsed.the-variants.{Good}
 use Rattle.desk.specs.listings.Output.{lineAfter}
-use Rattle.desk.specs.listings.Inner.{worldIn, lineTurned}
+use Rattle.desk.specs.listings.Inner.{runStateIn, lineTurned}
 use Rattle.reduce.specs.Reduced.{isRefusal}
-use Rattle.reduce.specs.Inner.{steppedBy}
+use Rattle.reduce.specs.Inner.{trialStepBy}
 use borrow.Author.Needs.{needs}
 use Rattle.reduce.proofs.take_line.Statement.{statement}
 use Rattle.reduce.proofs.take_line.Tie as tie
@@ -38,9 +38,9 @@ is-refusal-requires-2 c κs = search needs
 returns : tie.Need-returns
 returns c =
     let a = c .before .before .before .before .before .before .args in
-    let x = worldIn (store (a .words .now) (a .bytes .now)) (a .day) (a .area .now) in
+    let x = runStateIn (store (a .words .now) (a .bytes .now)) (a .day) (a .area .now) in
     let e = c .before .enum-told .given .1 in (
-      (λ i. record { gave = (c .is-refusal .ensures) i; day = a .day }) ∙ sym (ap (steppedBy true (a .number) x) e),
+      (λ i. record { gave = (c .is-refusal .ensures) i; day = a .day }) ∙ sym (ap (trialStepBy true (a .number) x) e),
       (sym (ap (λ (p : Parsed). lineAfter [] x p .timed .site) e), sym (ap (λ (p : Parsed). lineAfter [] x p .area) e)),
     )
 
@@ -60,14 +60,14 @@ returns-2 c =
     let c19 = c14 .before .before .before .before .before in
     let a = c19 .args in
     let s = store (a .words .now) (a .bytes .now) in
-    let x = worldIn s (a .day) (a .area .now) in
+    let x = runStateIn s (a .day) (a .area .now) in
     let v = c14 .p .given .0 .0 in
     let e = c14 .p .given .1 in
     let o = c .before .before .before .before .before .before .before .before .step .ensures in
     let t = as-timed s (a .day) (a .area .now) [] v (c19 .pre) in
-    let k : _ ≡ lineTurned [] x (Good v) = o .0 ∙ ap (λ (ws : List Window). turned s (a .day) (a .area .now) ws v) no-words ∙ t .0 in (
-      (λ i. record { gave = (c .is-refusal2 .ensures ∙ ap (λ (u : Turned). isRefusal (a .number) (u .answer)) k) i; day = k i .day })
-          ∙ sym (ap (steppedBy true (a .number) x) e),
+    let k : _ ≡ lineTurned [] x (Good v) = o .0 ∙ ap (λ (ws : List Window). dayAnswer s (a .day) (a .area .now) ws v) no-words ∙ t .0 in (
+      (λ i. record { gave = (c .is-refusal2 .ensures ∙ ap (λ (u : DayAnswer). isRefusal (a .number) (u .answer)) k) i; day = k i .day })
+          ∙ sym (ap (trialStepBy true (a .number) x) e),
       (
         o .1 .1 .1 .0 ∙ ap (λ (ws : List Window). timedSite s (a .day) (a .area .now) ws v) no-words ∙ t .1 .0
             ∙ sym (ap (λ (p : Parsed). lineAfter [] x p .timed .site) e),

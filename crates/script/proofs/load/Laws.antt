@@ -22,13 +22,14 @@ use Rattle.node.specs.Figures.{configOk}
 use Rattle.node.specs.declared.Config.{Config}
 use Rattle.site.specs.declared.Row.{Row}
 use Rattle.site.specs.declared.Table.{Table}
-use Rattle.script.specs.load.Opening.{Reading, refused, got, namesLine, configIn, settingsLine, rowIn, rowGood, stored, emptyTable}
-use Rattle.script.specs.load.Opening.{tableLines, Opening, then, bytesIn, placeOf, refusedAt, openedOf, readBack}
+use Rattle.script.specs.load.Opening.{Reading, refused, got, namesLine, configOfFive, settingsLine, rowIn, rowGood, rowStored}
+use Rattle.script.specs.load.Opening.{emptyTable}
+use Rattle.script.specs.load.Opening.{tableLines, Opening, then, bytesIn, linesStart, refusedAt, scriptHeadOf, readBack}
 use Rattle.script.specs.load.Inner.{Reads, behindNames, foundRow}
 use Rattle.script.specs.declared.Next.{Next}
 use Rattle.script.specs.declared.Next.the-variants.{Wrong, At}
 use Rattle.script.specs.declared.Found.the-variants.{Bad, Good}
-use Rattle.script.specs.declared.Opened.{Opened}
+use Rattle.script.specs.declared.ScriptHead.{ScriptHead}
 use Rattle.script.proofs.lines.Lines.{Whole, on-none, on-open, on-whole}
 
 -- a line of names that is ended
@@ -89,16 +90,17 @@ bytes-split c (b ∷ s) = go (eqb b c) (bytes-split c s)
     go false h = bytes-front b (split c s) (split-some c s) ∙ ap suc h
 
 -- so the lines from a place on determine it
-place-back : (s : List ℕ) (i : ℕ) → i ≤ length s → placeOf s (split 10 (drop i s)) ≡ i
+place-back : (s : List ℕ) (i : ℕ) → i ≤ length s → linesStart s (split 10 (drop i s)) ≡ i
 place-back s i h = omega (arith, bytes-split 10 (drop i s), length-drop i s)
 
 -- an answer that is a refusal, and one that passes on what another answered
-pub reads-refused : {s : List ℕ} {f : Config} {x : Reading Opening} {r : Opened} (n : ℕ) (a : Answer) → isDone a ≡ false → x ≡ refused n a
+pub reads-refused : {s : List ℕ} {f : Config} {x : Reading Opening} {r : ScriptHead} (n : ℕ) (a : Answer) → isDone a
+    ≡ false → x ≡ refused n a
     → r ≡ refusedAt n a f → Reads s f r x
 reads-refused {s} {f} {x} {r} n a d h e =
-    let z : r .at ≡ 0 = ap (λ (o : Opened). o .at) e in
+    let z : r .at ≡ 0 = ap (λ (o : ScriptHead). o .at) e in
     record {
-      is = e ∙ sym (ap (openedOf s f) h);
+      is = e ∙ sym (ap (scriptHeadOf s f) h);
       lines = ap (readBack s) e ∙ ap (λ (t : Bool). cond t (got (record {
         config = f;
         table = emptyTable;
@@ -106,11 +108,11 @@ reads-refused {s} {f} {x} {r} n a d h e =
       within = omega arith;
     }
 
-pub reads-same : {s : List ℕ} {f : Config} {x y : Reading Opening} {r : Opened} → x ≡ y → Reads s f r y → Reads s f r x
-reads-same {s} {f} h q = record { is = q .is ∙ sym (ap (openedOf s f) h); lines = q .lines ∙ sym h; within = q .within }
+pub reads-same : {s : List ℕ} {f : Config} {x y : Reading Opening} {r : ScriptHead} → x ≡ y → Reads s f r y → Reads s f r x
+reads-same {s} {f} h q = record { is = q .is ∙ sym (ap (scriptHeadOf s f) h); lines = q .lines ∙ sym h; within = q .within }
 
 -- the figures read are those of the reading so far
-pub reads-config : {s : List ℕ} {f g : Config} {x : Reading Opening} {r : Opened} → g ≡ f → Reads s f r x → Reads s g r x
+pub reads-config : {s : List ℕ} {f g : Config} {x : Reading Opening} {r : ScriptHead} → g ≡ f → Reads s f r x → Reads s g r x
 reads-config {s} {f} {g} {x} {r} e q = subst (λ (y : Config). Reads s y r x) (sym e) q
 
 -- an answer that names the place of the lines behind the opening, and line 0
@@ -129,14 +131,14 @@ reads-done {s} {x} {f} {t} {n} {i} z l h =
             at = k;
             config = f;
             table = t;
-          }) (sym (place-back s i l)) ∙ sym (ap (openedOf s f) h);
+          }) (sym (place-back s i l)) ∙ sym (ap (scriptHeadOf s f) h);
       lines = sym h;
       within = l;
     }
 
 -- a line of settings that is ended
 pub settings-whole : (n : ℕ) {s : List ℕ} {at e : ℕ} (t : Bool) (f : Config) → Whole s at e
-    → f ≡ configIn (fiveOf (split 32 (take (e - at) (drop at s)))) → configOk f ≡ t
+    → f ≡ configOfFive (fiveOf (split 32 (take (e - at) (drop at s)))) → configOk f ≡ t
     → settingsLine n (split 10 (drop at s)) ≡ cond t (got f (split 10 (drop (e + 1) s))) (refused n OutOfRange)
 unfolding settingsLine
 settings-whole n {s} {at} {e} t f w g h =
@@ -167,34 +169,34 @@ module _ (f : Config) (all i n : ℕ) (t : Table) (more : i < all) (s : List ℕ
 
   module _ {e : ℕ} (w : Whole s at e) (x : Four) (g : x ≡ fourOf (split 32 (take (e - at) (drop at s)))) where
     rows-whole : tableLines f (all - i) i n t (split 10 (drop at s))
-        ≡ cond (rowGood f i x) (tableLines f (all - (i + 1)) (i + 1) (n + 1) (stored t i (rowIn x)) (split 10 (drop (e + 1) s)))
+        ≡ cond (rowGood f i x) (tableLines f (all - (i + 1)) (i + 1) (n + 1) (rowStored t i (rowIn x)) (split 10 (drop (e + 1) s)))
         (refused n OutOfRange)
     unfolding tableLines
     rows-whole =
         one-less ∙ on-whole _ _ _ s at w
-        ∙ ap (λ (y : Four). cond (rowGood f i y) (tableLines f (all - (i + 1)) (i + 1) (n + 1) (stored t i (rowIn y))
+        ∙ ap (λ (y : Four). cond (rowGood f i y) (tableLines f (all - (i + 1)) (i + 1) (n + 1) (rowStored t i (rowIn y))
         (split 10 (drop (e + 1) s))) (refused n OutOfRange)) (sym g)
 
     pub rows-bad : foundRow f i x ≡ Bad → tableLines f (all - i) i n t (split 10 (drop at s)) ≡ refused n OutOfRange
     rows-bad h = rows-whole ∙ go (rowGood f i x) h
       where
         go : (b : Bool) → cond b (Good (rowIn x)) Bad ≡ Bad
-            → cond b (tableLines f (all - (i + 1)) (i + 1) (n + 1) (stored t i (rowIn x)) (split 10 (drop (e + 1) s)))
+            → cond b (tableLines f (all - (i + 1)) (i + 1) (n + 1) (rowStored t i (rowIn x)) (split 10 (drop (e + 1) s)))
             (refused n OutOfRange) ≡ refused n OutOfRange
         go true k = absurd (let z : _≡_ {A = ℕ} 0 1 = cc in omega arith)
         go false k = refl
 
     pub rows-good : (r : Row) (m : ℕ) → foundRow f i x ≡ Good r → m ≡ n + 1
-        → tableLines f (all - i) i n t (split 10 (drop at s)) ≡ tableLines f (all - (i + 1)) (i + 1) m (stored t i r)
+        → tableLines f (all - i) i n t (split 10 (drop at s)) ≡ tableLines f (all - (i + 1)) (i + 1) m (rowStored t i r)
         (split 10 (drop (e + 1) s))
-    rows-good r m h q = rows-whole ∙ go (rowGood f i x) h ∙ ap (λ (k : ℕ). tableLines f (all - (i + 1)) (i + 1) k (stored t i r)
+    rows-good r m h q = rows-whole ∙ go (rowGood f i x) h ∙ ap (λ (k : ℕ). tableLines f (all - (i + 1)) (i + 1) k (rowStored t i r)
         (split 10 (drop (e + 1) s))) (sym q)
       where
         go : (b : Bool) → cond b (Good (rowIn x)) Bad ≡ Good r
-            → cond b (tableLines f (all - (i + 1)) (i + 1) (n + 1) (stored t i (rowIn x)) (split 10 (drop (e + 1) s)))
+            → cond b (tableLines f (all - (i + 1)) (i + 1) (n + 1) (rowStored t i (rowIn x)) (split 10 (drop (e + 1) s)))
             (refused n OutOfRange)
-            ≡ tableLines f (all - (i + 1)) (i + 1) (n + 1) (stored t i r) (split 10 (drop (e + 1) s))
-        go true k = let y : rowIn x ≡ r = cc in ap (λ (a : Row). tableLines f (all - (i + 1)) (i + 1) (n + 1) (stored t i a)
+            ≡ tableLines f (all - (i + 1)) (i + 1) (n + 1) (rowStored t i r) (split 10 (drop (e + 1) s))
+        go true k = let y : rowIn x ≡ r = cc in ap (λ (a : Row). tableLines f (all - (i + 1)) (i + 1) (n + 1) (rowStored t i a)
             (split 10 (drop (e + 1) s))) y
         go false k = absurd (let z : _≡_ {A = ℕ} 0 1 = cc in omega arith)
 

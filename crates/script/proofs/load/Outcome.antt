@@ -28,10 +28,11 @@ use Rattle.site.specs.Load.{rowOk, noRow, tableOk, loadAnswer}
 use Rattle.node.specs.declared.Config.{Config}
 use Rattle.site.specs.declared.Row.{Row}
 use Rattle.site.specs.declared.Table.{Table}
-use Rattle.script.specs.load.Opening.{settingsNames, tableNames, eventNames, Reading, refused, got, namesLine, configIn, settingsLine}
-use Rattle.script.specs.load.Opening.{rowIn, rowGood, stored, emptyTable, tableLines, Opening, then, opening, configOf, configRead}
-use Rattle.script.specs.load.Opening.{openedOf}
-use Rattle.script.specs.declared.Opened.{Opened}
+use Rattle.script.specs.load.Opening.{settingsNames, tableNames, eventNames, Reading, refused, got, namesLine, configOfFive}
+use Rattle.script.specs.load.Opening.{settingsLine}
+use Rattle.script.specs.load.Opening.{rowIn, rowGood, rowStored, emptyTable, tableLines, Opening, then, opening, configOf, configRead}
+use Rattle.script.specs.load.Opening.{scriptHeadOf}
+use Rattle.script.specs.declared.ScriptHead.{ScriptHead}
 use Rattle.script.specs.load.Inner.{fromEvents, fromRows, fromTable, fromSettings}
 use Rattle.script.proofs.load.Laws.{Limits, limits}
 
@@ -114,7 +115,7 @@ settings-end : (Q : Config → List (List ℕ) → Type 0) (n : ℕ) (ps : List 
     → ((f : Config) (ls : List (List ℕ)) → configOk f ≡ true → lines ls ≤ lines ps → Q f ls) → Ends Q (settingsLine n ps)
 unfolding settingsLine
 settings-end Q n ps h g = ends-line Q n BadNames OutOfRange _ ps h
-    (λ l ls k. go (configIn (fiveOf (split 32 l))) (configOk (configIn (fiveOf (split 32 l)))) refl ls k)
+    (λ l ls k. go (configOfFive (fiveOf (split 32 l))) (configOk (configOfFive (fiveOf (split 32 l)))) refl ls k)
   where
     go : (f : Config) (t : Bool) → configOk f ≡ t → (ls : List (List ℕ)) → lines ls ≤ lines ps
         → Ends Q (cond t (got f ls) (refused n OutOfRange))
@@ -129,7 +130,7 @@ pub record GoodRows (f : Config) (i : ℕ) (t : Table) : Type 0 where
 good-none : (f : Config) → GoodRows f 0 emptyTable
 good-none f = record { long = refl; good = λ j l. absurd (omega arith) }
 
-good-more : (f : Config) (i : ℕ) (t : Table) (r : Row) → i < 32 → rowOk f i r ≡ true → GoodRows f i t → GoodRows f (i + 1) (stored t i r)
+good-more : (f : Config) (i : ℕ) (t : Table) (r : Row) → i < 32 → rowOk f i r ≡ true → GoodRows f i t → GoodRows f (i + 1) (rowStored t i r)
 good-more f i t r h e q =
     record {
       long = length-set (t .rows) i r ∙ q .long;
@@ -163,15 +164,16 @@ table-end Q f (suc left) i n t ps h k q g =
     (λ l ls o.
     go (fourOf (split 32 l)) ls (rowGood f i (fourOf (split 32 l))) refl
     (λ p.
-    table-end Q f left (i + 1) (n + 1) (stored t i (rowIn (fourOf (split 32 l)))) ls (omega arith) (omega arith) p
+    table-end Q f left (i + 1) (n + 1) (rowStored t i (rowIn (fourOf (split 32 l)))) ls (omega arith) (omega arith) p
     (λ u rs a b.
     let z : i + 1 + left ≡ i + suc left = omega arith in
     g u rs (rw z at a) (omega arith))))
   where
     more : Four → List (List ℕ) → Reading Table
-    more x ls = tableLines f left (i + 1) (n + 1) (stored t i (rowIn x)) ls
+    more x ls = tableLines f left (i + 1) (n + 1) (rowStored t i (rowIn x)) ls
 
-    go : (x : Four) (ls : List (List ℕ)) (b : Bool) → rowGood f i x ≡ b → (GoodRows f (i + 1) (stored t i (rowIn x)) → Ends Q (more x ls))
+    go : (x : Four) (ls : List (List ℕ)) (b : Bool) → rowGood f i x ≡ b
+        → (GoodRows f (i + 1) (rowStored t i (rowIn x)) → Ends Q (more x ls))
         → Ends Q (cond b (more x ls) (refused n OutOfRange))
     go x ls true e r = r (good-more f i t (rowIn x) (omega arith) (good-row f i x e) q)
     go x ls false e r = omega arith
@@ -232,10 +234,10 @@ pub opening-loads : (ps : List (List ℕ)) (o : Opening) (ls : List (List ℕ)) 
 opening-loads ps o ls e = opening-fine ps o ls e .loads
 
 -- the answer to a script has the figures read, whether it opens or not
-pub opened-config : (s : List ℕ) {o : Opened} → o ≡ openedOf s (configRead (split 10 s)) (opening (split 10 s))
+pub opened-config : (s : List ℕ) {o : ScriptHead} → o ≡ scriptHeadOf s (configRead (split 10 s)) (opening (split 10 s))
     → o .config ≡ configRead (split 10 s)
-opened-config s {o} h = ap (λ (x : Opened). x .config) h ∙ go (opening (split 10 s)) refl
+opened-config s {o} h = ap (λ (x : ScriptHead). x .config) h ∙ go (opening (split 10 s)) refl
   where
-    go : (r : Reading Opening) → opening (split 10 s) ≡ r → openedOf s (configRead (split 10 s)) r .config ≡ configRead (split 10 s)
+    go : (r : Reading Opening) → opening (split 10 s) ≡ r → scriptHeadOf s (configRead (split 10 s)) r .config ≡ configRead (split 10 s)
     go (refused n a) e = refl
     go (got o ls) e = sym (opening-fine (split 10 s) o ls e .read)

@@ -13,17 +13,17 @@ use Rattle.node.specs.declared.Config.{Config}
 use Rattle.site.specs.declared.Table.{Table}
 use Rattle.script.specs.load.Opening.{tableNames, eventNames, Reading, refused, got, namesLine, settingsLine, rowIn, rowGood}
 use Rattle.script.specs.load.Opening.{emptyTable}
-use Rattle.script.specs.load.Opening.{tableLines, Opening, then, openedOf, readBack}
+use Rattle.script.specs.load.Opening.{tableLines, Opening, then, scriptHeadOf, readBack}
 use Rattle.script.specs.declared.Next.{Next}
 use Rattle.script.specs.declared.Next.the-variants.{Wrong, At}
 use Rattle.script.specs.declared.Found.{Found}
 use Rattle.script.specs.declared.Found.the-variants.{Bad, Good}
-use Rattle.script.specs.declared.Opened.{Opened}
+use Rattle.script.specs.declared.ScriptHead.{ScriptHead}
 
 -- r is the answer to the script s whose figures read are f and whose opening is x: every field of it; what it says read back; and its place
 -- is one of the script's
-pub record Reads (s : List ℕ) (f : Config) (r : Opened) (x : Reading Opening) : Type 0 where
-  pub is : r ≡ openedOf s f x
+pub record Reads (s : List ℕ) (f : Config) (r : ScriptHead) (x : Reading Opening) : Type 0 where
+  pub is : r ≡ scriptHeadOf s f x
   pub lines : readBack s r ≡ x
   pub within : r .at ≤ length s
 

@@ -25,7 +25,7 @@ use Rattle.site.specs.Load.{rowOk, noRow}
 use Rattle.node.specs.declared.Config.{Config}
 use Rattle.site.specs.declared.Row.{Row}
 use Rattle.site.specs.declared.Table.{Table}
-use Rattle.script.specs.declared.Opened.{Opened}
+use Rattle.script.specs.declared.ScriptHead.{ScriptHead}
 
 -- the names of the settings
 abbrev pub settingsNames : List ℕ
@@ -49,15 +49,15 @@ unfoldable pub namesLine : {A : Type 0} → ℕ → List ℕ → A → List (Lis
 namesLine n names x ps = onLine (refused n BadNames) (refused n BadNames) (λ l ls. cond (same l names) (got x ls) (refused n BadNames)) ps
 
 -- five numbers as figures
-abbrev pub configIn : Five → Config
-configIn NotFive = noConfig
-configIn (Quint n k f h s) = record { nodes = n; slots = k; rounds = f; «min_heard» = h; split = s }
+abbrev pub configOfFive : Five → Config
+configOfFive NotFive = noConfig
+configOfFive (Quint n k f h s) = record { nodes = n; slots = k; rounds = f; «min_heard» = h; split = s }
 
 -- the line of settings
 unfoldable pub settingsLine : ℕ → List (List ℕ) → Reading Config
 settingsLine n ps =
     onLine (refused n BadNames) (refused n OutOfRange)
-    (λ l ls. cond (configOk (configIn (fiveOf (split 32 l)))) (got (configIn (fiveOf (split 32 l))) ls) (refused n OutOfRange)) ps
+    (λ l ls. cond (configOk (configOfFive (fiveOf (split 32 l)))) (got (configOfFive (fiveOf (split 32 l))) ls) (refused n OutOfRange)) ps
 
 -- four numbers as a row
 abbrev pub rowIn : Four → Row
@@ -69,8 +69,8 @@ abbrev pub rowGood : Config → ℕ → Four → Bool
 rowGood f i NotFour = false
 rowGood f i (Quad j v m d) = eqb j (i + 1) && (leb d topRequest && rowOk f i (record { version = v; flags = m; want = d }))
 
-abbrev pub stored : Table → ℕ → Row → Table
-stored t i r = record { rows = set (t .rows) i r }
+abbrev pub rowStored : Table → ℕ → Row → Table
+rowStored t i r = record { rows = set (t .rows) i r }
 
 abbrev pub emptyTable : Table
 emptyTable = record { rows = replicate 32 noRow }
@@ -80,7 +80,7 @@ unfoldable pub tableLines : Config → ℕ → ℕ → ℕ → Table → List (L
 tableLines f zero i n t ls = got t ls
 tableLines f (suc left) i n t ps =
     onLine (refused n BadNames) (refused n OutOfRange)
-    (λ l ls. cond (rowGood f i (fourOf (split 32 l))) (tableLines f left (i + 1) (n + 1) (stored t i (rowIn (fourOf (split 32 l)))) ls)
+    (λ l ls. cond (rowGood f i (fourOf (split 32 l))) (tableLines f left (i + 1) (n + 1) (rowStored t i (rowIn (fourOf (split 32 l)))) ls)
     (refused n OutOfRange)) ps
 
 -- settings and table
@@ -118,22 +118,22 @@ bytesIn (l ∷ []) = length l
 bytesIn (l ∷ m ∷ ls) = length l + suc (bytesIn (m ∷ ls))
 
 -- the place of a script where the lines start that stand at its end: they determine it
-abbrev pub placeOf : List ℕ → List (List ℕ) → ℕ
-placeOf s ls = length s - bytesIn ls
+abbrev pub linesStart : List ℕ → List (List ℕ) → ℕ
+linesStart s ls = length s - bytesIn ls
 
 -- the answer that refuses a line, with the figures read before it: the place is 0, and the table is empty
-abbrev pub refusedAt : ℕ → Answer → Config → Opened
+abbrev pub refusedAt : ℕ → Answer → Config → ScriptHead
 refusedAt n a f = record { answer = a; line = n; at = 0; config = f; table = emptyTable }
 
 -- the answer to a script whose opening was read, and figures f of it: after a refusal that of its line with the figures, and otherwise Done
 -- with line 0, the settings, the table and the place of the event lines
-abbrev pub openedOf : List ℕ → Config → Reading Opening → Opened
-openedOf s f (refused n a) = refusedAt n a f
-openedOf s f (got o ls) = record { answer = Done; line = 0; at = placeOf s ls; config = o .config; table = o .table }
+abbrev pub scriptHeadOf : List ℕ → Config → Reading Opening → ScriptHead
+scriptHeadOf s f (refused n a) = refusedAt n a f
+scriptHeadOf s f (got o ls) = record { answer = Done; line = 0; at = linesStart s ls; config = o .config; table = o .table }
 
 -- an answer read back: settings, table and the lines from its place on where it is Done, and otherwise a refusal with the number of its
 -- line
-abbrev pub readBack : List ℕ → Opened → Reading Opening
+abbrev pub readBack : List ℕ → ScriptHead → Reading Opening
 readBack s r =
     cond (isDone (r .answer)) (got (record {
       config = r .config;

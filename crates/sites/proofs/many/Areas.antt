@@ -25,15 +25,15 @@ use Rattle.machine.specs.Written.{nodesIn}
 use Rattle.machine.specs.steps.After.{nextStore, storageAnswer, storeAfter}
 use Rattle.windows.specs.Windows.{listOk}
 use Rattle.windows.specs.declared.Window.{Window}
-use Rattle.machine.specs.hours.Hours.{Timed, epochAfter, nextEpoch, beginsEpoch, timedAnswer, givenBefore, nextTimed}
+use Rattle.machine.specs.hours.Hours.{Timed, epochAfter, nextInDay, beginsEpoch, timedAnswer, givenBefore, nextTimed}
 use Rattle.machine.specs.hours.Stored.{timedIn, givenAt, givenStore, storedAnswer, begunStore, timedStore}
 use Rattle.machine.specs.declared.Day.{Day}
-use Rattle.machine.specs.reports.Reports.{reportSize, reportOf, reportBytes, putReport}
+use Rattle.machine.specs.reports.Reports.{reportsSize, reportOf, reportBytes, putReport}
 use Rattle.tally.specs.Counting.{tallyOk}
 use Rattle.tally.specs.Ends.{talliedAnswer, tallyAt}
 use Rattle.tally.specs.declared.Tally.{Tally}
-use Rattle.machine.specs.turn.Kept.{Kept, firstOf, keptAnswer, nextKept, keptAfter}
-use Rattle.machine.specs.turn.Stored.{keptIn, noPlace, tooFew, stepAnswer, stepStore, stepReport, stepKept}
+use Rattle.machine.specs.turn.Kept.{Kept, firstRefusal, keptAnswer, nextKept, keptAfter}
+use Rattle.machine.specs.turn.Stored.{keptIn, reportTooShort, lentTooShort, stepAnswer, stepStore, stepReport, stepKept}
 use Rattle.group.specs.Calls.{isSend}
 use Rattle.group.proofs.Sites.{area-kept}
 use Rattle.sites.specs.many.Inner.{isHear}
@@ -44,24 +44,24 @@ module _ (s : Store) (d : Day) (l : List ℕ) (ws : List Window) (t : Tally) (ou
   done = isDone (keptAnswer (keptIn s d l t) ws e)
 
   pub timed-by : stepKept s d l ws t out e .timed
-      ≡ cond (tooFew s l out) (timedIn s d) (cond done (nextTimed (timedIn s d) l ws e) (timedIn s d))
+      ≡ cond (lentTooShort s l out) (timedIn s d) (cond done (nextTimed (timedIn s d) l ws e) (timedIn s d))
   unfolding stepKept keptAfter nextKept
   timed-by =
-      read-choice (λ (k : Kept). k .timed) (tooFew s l out) (keptIn s d l t) (keptAfter (keptIn s d l t) ws e)
-      ∙ ap (cond (tooFew s l out) (timedIn s d))
+      read-choice (λ (k : Kept). k .timed) (lentTooShort s l out) (keptIn s d l t) (keptAfter (keptIn s d l t) ws e)
+      ∙ ap (cond (lentTooShort s l out) (timedIn s d))
       (read-choice (λ (k : Kept). k .timed) done (nextKept (keptIn s d l t) ws e) (keptIn s d l t))
 
   pub tally-by : stepKept s d l ws t out e .tally
-      ≡ cond (tooFew s l out) t (cond done (cond (isEnd e) (tallyAt (nextTimed (timedIn s d) l ws e .site) t) t) t)
+      ≡ cond (lentTooShort s l out) t (cond done (cond (isEnd e) (tallyAt (nextTimed (timedIn s d) l ws e .site) t) t) t)
   unfolding stepKept keptAfter nextKept
   tally-by =
-      read-choice (λ (k : Kept). k .tally) (tooFew s l out) (keptIn s d l t) (keptAfter (keptIn s d l t) ws e)
-      ∙ ap (cond (tooFew s l out) t) (read-choice (λ (k : Kept). k .tally) done (nextKept (keptIn s d l t) ws e) (keptIn s d l t))
+      read-choice (λ (k : Kept). k .tally) (lentTooShort s l out) (keptIn s d l t) (keptAfter (keptIn s d l t) ws e)
+      ∙ ap (cond (lentTooShort s l out) t) (read-choice (λ (k : Kept). k .tally) done (nextKept (keptIn s d l t) ws e) (keptIn s d l t))
 
   pub area-by : isSend e ≡ false → stepKept s d l ws t out e .area ≡ l
   unfolding stepKept keptAfter nextKept
   area-by h =
-      read-same (λ (k : Kept). k .area) (tooFew s l out) (keptIn s d l t) (keptAfter (keptIn s d l t) ws e) l refl
+      read-same (λ (k : Kept). k .area) (lentTooShort s l out) (keptIn s d l t) (keptAfter (keptIn s d l t) ws e) l refl
       (read-same (λ (k : Kept). k .area) done (nextKept (keptIn s d l t) ws e) (keptIn s d l t) l (area-kept (siteIn s) l e h) refl)
 
 module _ (x y : List ℕ) (long-x : areaSize ≤ length x) (long-y : areaSize ≤ length y) where
@@ -126,7 +126,7 @@ module _ (x y : List ℕ) (long-x : areaSize ≤ length x) (long-y : areaSize �
 
     next-timed : (t : Timed) → nextTimed t x ws e ≡ nextTimed t y ws e
     unfolding nextTimed
-    next-timed t = λ i. record { site = site-same (givenBefore t ws e) e h i; day = cond (beginsEpoch t e) (nextEpoch (t .day)) (t .day) }
+    next-timed t = λ i. record { site = site-same (givenBefore t ws e) e h i; day = cond (beginsEpoch t e) (nextInDay (t .day)) (t .day) }
 
     timed-store : (s : Store) (d : Day) → timedStore s d x ws e ≡ timedStore s d y ws e
     unfolding timedStore storedAnswer
@@ -138,13 +138,13 @@ module _ (x y : List ℕ) (long-x : areaSize ≤ length x) (long-y : areaSize �
 
     -- with a tally and an output for reports
     module _ (s : Store) (d : Day) (t : Tally) (out : List ℕ) where
-      few-same : tooFew s x out ≡ tooFew s y out
-      few-same = ap (λ (b : Bool). tooShort s || (b || noPlace out)) (le-ltb _ _ long-x ∙ sym (le-ltb _ _ long-y))
+      few-same : lentTooShort s x out ≡ lentTooShort s y out
+      few-same = ap (λ (b : Bool). tooShort s || (b || reportTooShort out)) (le-ltb _ _ long-x ∙ sym (le-ltb _ _ long-y))
 
       kept-answer : keptAnswer (keptIn s d x t) ws e ≡ keptAnswer (keptIn s d y t) ws e
       unfolding keptAnswer talliedAnswer
       kept-answer =
-          ap (λ (a : Answer). firstOf (cond (isEnd e && isDone a) (cond (tallyOk t) Done NotANode) a)
+          ap (λ (a : Answer). firstRefusal (cond (isEnd e && isDone a) (cond (tallyOk t) Done NotANode) a)
           (cond (listOk (siteIn s .config .nodes) (d .length) ws) Done BadWindows))
           (answer-same (siteIn s) e h)
 
@@ -159,7 +159,7 @@ module _ (x y : List ℕ) (long-x : areaSize ≤ length x) (long-y : areaSize �
       put-same : putReport s x e out ≡ putReport s y e out
       unfolding putReport storageAnswer
       put-same =
-          ap (λ (a : Answer). cond (leb reportSize (length out) && (isClose e && isDone (cond (tooShort s) NoRoom a)))
+          ap (λ (a : Answer). cond (leb reportsSize (length out) && (isClose e && isDone (cond (tooShort s) NoRoom a)))
           (written out 0 (reportBytes (reportOf true (siteIn s .members)))) out)
           (answer-same (siteIn s) e h)
 

@@ -23,7 +23,7 @@ use Rattle.machine.specs.steps.After.{sentStore, storageAnswer, storeAfter, are
 use Rattle.machine.proofs.steps.Whole.{as-site}
 use Rattle.machine.proofs.steps.Follows.{follows}
 use Rattle.windows.specs.declared.Window.{Window}
-use Rattle.machine.specs.hours.Hours.{Timed, nextEpoch, inLastRound, nextTimed}
+use Rattle.machine.specs.hours.Hours.{Timed, nextInDay, inLastRound, nextTimed}
 use Rattle.machine.specs.hours.Stored.{timedIn, timedStore}
 use Rattle.machine.specs.declared.Day.{Day}
 use Rattle.machine.proofs.hours.Laws.{plain-after}
@@ -33,9 +33,10 @@ use Rattle.machine.proofs.reports.Laws.{no-close-put}
 use Rattle.tally.specs.Counting.{tallyOk}
 use Rattle.tally.specs.Ends.{talliedAnswer, tallyAt}
 use Rattle.tally.specs.declared.Tally.{Tally}
-use Rattle.machine.specs.turn.Kept.{Kept, firstOf, keptAnswer}
-use Rattle.machine.specs.turn.Stored.{keptIn, noPlace, tooFew, stepAnswer, isAccepted, stepStore, stepReport, stepKept, stepped}
-use Rattle.machine.specs.declared.Stepped.{Stepped}
+use Rattle.machine.specs.turn.Kept.{Kept, firstRefusal, keptAnswer}
+use Rattle.machine.specs.turn.Stored.{keptIn, reportTooShort, lentTooShort, stepAnswer, stepAccepted, stepStore, stepReport, stepKept}
+use Rattle.machine.specs.turn.Stored.{stepResult}
+use Rattle.machine.specs.declared.StepResult.{StepResult}
 use Rattle.machine.proofs.turn.Laws.{few-short, kept-refused, store-refused, step-timed}
 use Rattle.group.specs.Places.{freed}
 use Rattle.group.specs.Group.{ownShare}
@@ -43,12 +44,14 @@ use Rattle.group.specs.Calls.{isSend, crowded}
 use Rattle.group.specs.Steps.{nextPlaces, nextBytes}
 use Rattle.group.proofs.Parts.{own-long}
 use Rattle.sites.specs.many.Memory.{Lent}
-use Rattle.sites.specs.many.Inner.{isHear, nodeOf, packetIn, Lone, around, timedOf, countOf, ownOf, keptBy, plainBy, shortBy, takenBy}
-use Rattle.sites.specs.many.Inner.{toldBy, storeBy, siteBy, placesBy, areaBy, reportBy, listed, sendAnswer, sendShort, sendTaken}
-use Rattle.sites.specs.many.Inner.{sendNumber, sendStore, sendPlaces, sendArea, hearAnswer, hearStore}
+use Rattle.sites.specs.many.Inner.{isHear, eventNode, eventPacket, OneSite, around, timedOf, sentCount, ownAreaOf, keptBy, plainBy}
+use Rattle.sites.specs.many.Inner.{shortBy, takenBy}
+use Rattle.sites.specs.many.Inner.{stepResultBy, storeBy, siteBy, placesBy, areaBy, reportBy, listAnswer, groupSendAnswer, sendShort}
+use Rattle.sites.specs.many.Inner.{sendTaken}
+use Rattle.sites.specs.many.Inner.{sendNumber, sendStore, sendPlaces, sendArea, groupHearAnswer, hearStore}
 use Rattle.sites.proofs.many.Areas.{timed-by, tally-by, area-by, step-answer, step-store, step-report, kept-timed, kept-tally}
 
-pub send-is : (e : Event) → isSend e ≡ true → Send (nodeOf e) ≡ e
+pub send-is : (e : Event) → isSend e ≡ true → Send (eventNode e) ≡ e
 send-is (Send j) h = refl
 send-is (Hear j p) h = clash (isSend (Hear j p)) h refl
 send-is Close h = clash (isSend Close) h refl
@@ -58,7 +61,7 @@ send-is (Want j d) h = clash (isSend (Want j d)) h refl
 send-is (Crash j) h = clash (isSend (Crash j)) h refl
 send-is (Restart j flags) h = clash (isSend (Restart j flags)) h refl
 
-pub hear-is : (e : Event) → isHear e ≡ true → Hear (nodeOf e) (packetIn e) ≡ e
+pub hear-is : (e : Event) → isHear e ≡ true → Hear (eventNode e) (eventPacket e) ≡ e
 hear-is (Send j) h = clash (isHear (Send j)) h refl
 hear-is (Hear j p) h = refl
 hear-is Close h = clash (isHear Close) h refl
@@ -81,23 +84,24 @@ either true y = refl
 either false y = refl
 
 -- what an event tells and writes
-abbrev pub Turned : Lone → Bool → Lent → Event → Stepped → List ℕ → List ℕ → List ℕ → List ℕ → List ℕ → Type 0
-Turned x full v e r w b l y o =
-    (r ≡ toldBy x full v e)
+abbrev pub DayAnswer : OneSite → Bool → Lent → Event → StepResult → List ℕ → List ℕ → List ℕ → List ℕ → List ℕ → Type 0
+DayAnswer x full v e r w b l y o =
+    (r ≡ stepResultBy x full v e)
     × ((w ≡ storeBy x full v e .words)
     × ((b ≡ storeBy x full v e .bytes)
     × ((l ≡ placesBy x full v e) × ((y ≡ areaBy x full v e) × ((o ≡ reportBy x full v e) × (siteIn (store w b) ≡ siteBy x full v e))))))
 
 -- all that is refused leaves all as it was
-refused-turn : (x : Lone) (full : Bool) (v : Lent) (e : Event) {n : ℕ} → takenBy x full v e ≡ false → n
+refused-turn : (x : OneSite) (full : Bool) (v : Lent) (e : Event) {n : ℕ} → takenBy x full v e ≡ false → n
     ≡ cond (shortBy x full v e) crowded (number (plainBy x v e))
-    → Turned x full v e (record { code = n; day = x .day; tally = v .tally }) (x .store .words) (x .store .bytes) (x .places) (x .area)
+    → DayAnswer x full v e (record { code = n; day = x .day; tally = v .tally }) (x .store .words) (x .store .bytes) (x .places) (x .area)
     (v .out)
-unfolding toldBy storeBy siteBy placesBy areaBy reportBy
+unfolding stepResultBy storeBy siteBy placesBy areaBy reportBy
 refused-turn x full v e {n} h k =
     let d : x .day ≡ cond (takenBy x full v e) (keptBy x v e .timed .day) (x .day) = sym (skip _ _ _ _ h refl) in
     let t : v .tally ≡ cond (takenBy x full v e) (keptBy x v e .tally) (v .tally) = sym (skip _ _ _ _ h refl) in
-    let s : x .store ≡ cond (takenBy x full v e) (stepStore (x .store) (x .day) (ownOf x) (v .windows) (v .tally) (v .out) e) (x .store) =
+    let s : x .store ≡ cond (takenBy x full v e)
+    (stepStore (x .store) (x .day) (ownAreaOf x) (v .windows) (v .tally) (v .out) e) (x .store) =
     sym (skip _ _ _ _ h refl) in (
       (λ i. record { code = k i; day = d i; tally = t i }),
       (
@@ -110,30 +114,32 @@ refused-turn x full v e {n} h k =
     )
 
 -- an area of the site's own is long enough
-few-own : (x : Lone) (out : List ℕ) → ltb (length (x .area)) areaSize ≡ false → tooFew (x .store) (ownOf x) out
-    ≡ tooFew (x .store) (x .area) out
-few-own x out h = ap (λ (b : Bool). tooShort (x .store) || (b || noPlace out))
-    (le-ltb _ _ (own-long (around x) (x .number) (countOf x)) ∙ sym h)
+few-own : (x : OneSite) (out : List ℕ) → ltb (length (x .area)) areaSize ≡ false → lentTooShort (x .store) (ownAreaOf x) out
+    ≡ lentTooShort (x .store) (x .area) out
+few-own x out h = ap (λ (b : Bool). tooShort (x .store) || (b || reportTooShort out))
+    (le-ltb _ _ (own-long (around x) (x .number) (sentCount x)) ∙ sym h)
 
 -- 15
-pub room-turn : (x : Lone) (full : Bool) (v : Lent) (e : Event) {n : ℕ} → tooFew (x .store) (x .area) (v .out) ≡ true → n ≡ number NoRoom
-    → Turned x full v e (record { code = n; day = x .day; tally = v .tally }) (x .store .words) (x .store .bytes) (x .places) (x .area)
+pub room-turn : (x : OneSite) (full : Bool) (v : Lent) (e : Event) {n : ℕ} → lentTooShort (x .store) (x .area) (v .out)
+    ≡ true → n ≡ number NoRoom
+    → DayAnswer x full v e (record { code = n; day = x .day; tally = v .tally }) (x .store .words) (x .store .bytes) (x .places) (x .area)
     (v .out)
 unfolding takenBy shortBy plainBy stepAnswer
 room-turn x full v e {n} h k =
     refused-turn x full v e (ap (λ (a : Answer). isDone a && not (shortBy x full v e)) plain)
-    (k ∙ sym (skip _ _ _ _ (ap (λ (a : Answer). isSend e && (isDone a && (leb ownShare (countOf x) && full))) plain ∙ and-false (isSend e))
+    (k ∙ sym (skip _ _ _ _
+    (ap (λ (a : Answer). isSend e && (isDone a && (leb ownShare (sentCount x) && full))) plain ∙ and-false (isSend e))
     (ap number plain)))
   where
     go : (b : Bool) → ltb (length (x .area)) areaSize ≡ b
-        → cond b NoRoom (stepAnswer (x .store) (x .day) (ownOf x) (v .windows) (v .tally) (v .out) e) ≡ NoRoom
+        → cond b NoRoom (stepAnswer (x .store) (x .day) (ownAreaOf x) (v .windows) (v .tally) (v .out) e) ≡ NoRoom
     go true c = refl
     go false c = hit _ _ _ (few-own x (v .out) c ∙ h)
 
     plain : plainBy x v e ≡ NoRoom
     plain = go (ltb (length (x .area)) areaSize) refl
 
-module _ (x : Lone) (v : Lent) (few : tooFew (x .store) (x .area) (v .out) ≡ false) where
+module _ (x : OneSite) (v : Lent) (few : lentTooShort (x .store) (x .area) (v .out) ≡ false) where
   abbrev s : Store
   s = x .store
 
@@ -141,7 +147,7 @@ module _ (x : Lone) (v : Lent) (few : tooFew (x .store) (x .area) (v .out) ≡ f
   d = x .day
 
   abbrev own : List ℕ
-  own = ownOf x
+  own = ownAreaOf x
 
   abbrev ws : List Window
   ws = v .windows
@@ -156,16 +162,16 @@ module _ (x : Lone) (v : Lent) (few : tooFew (x .store) (x .area) (v .out) ≡ f
   long = few-short s (x .area) out few
 
   no-short : ltb (length (x .area)) areaSize ≡ false
-  no-short = or-neither (ltb (length (x .area)) areaSize) (noPlace out)
-      (or-neither (tooShort s) (ltb (length (x .area)) areaSize || noPlace out) few .1) .0
+  no-short = or-neither (ltb (length (x .area)) areaSize) (reportTooShort out)
+      (or-neither (tooShort s) (ltb (length (x .area)) areaSize || reportTooShort out) few .1) .0
 
   pub room : areaSize ≤ length (x .area)
   room = ltb-false (length (x .area)) areaSize no-short
 
   own-room : areaSize ≤ length own
-  own-room = own-long (around x) (x .number) (countOf x)
+  own-room = own-long (around x) (x .number) (sentCount x)
 
-  own-few : tooFew s own out ≡ false
+  own-few : lentTooShort s own out ≡ false
   own-few = few-own x out no-short ∙ few
 
   plain-is : (e : Event) → plainBy x v e ≡ stepAnswer s d own ws t out e
@@ -178,19 +184,20 @@ module _ (x : Lone) (v : Lent) (few : tooFew (x .store) (x .area) (v .out) ≡ f
 
   -- of what is no end
   module _ (e : Event) (h : isEnd e ≡ false) where
-    plain-own : plainBy x v e ≡ firstOf (answerOf (siteIn s) own e) (listed s d ws)
+    plain-own : plainBy x v e ≡ firstRefusal (answerOf (siteIn s) own e) (listAnswer s d ws)
     unfolding stepAnswer keptAnswer talliedAnswer
     plain-own =
         plain-is e
-        ∙ skip _ _ _ _ own-few (ap (λ (b : Bool). firstOf
-        (cond (b && isDone (answerOf (siteIn s) own e)) (cond (tallyOk t) Done NotANode) (answerOf (siteIn s) own e)) (listed s d ws)) h)
+        ∙ skip _ _ _ _ own-few (ap (λ (b : Bool). firstRefusal
+        (cond (b && isDone (answerOf (siteIn s) own e)) (cond (tallyOk t) Done NotANode) (answerOf (siteIn s) own e))
+        (listAnswer s d ws)) h)
 
     day-kept : keptBy x v e .timed .day ≡ d
     unfolding nextTimed
     day-kept =
         ap (λ (z : Timed). z .day) (timed-by s d own ws t out e ∙ skip _ _ _ _ own-few refl)
         ∙ read-same (λ (z : Timed). z .day) (isDone (keptAnswer (keptIn s d own t) ws e)) (nextTimed (timedIn s d) own ws e) (timedIn s d) d
-        (skip (isEnd e && inLastRound (siteIn s)) (nextEpoch d) d d (ap (λ (b : Bool). b && inLastRound (siteIn s)) h) refl) refl
+        (skip (isEnd e && inLastRound (siteIn s)) (nextInDay d) d d (ap (λ (b : Bool). b && inLastRound (siteIn s)) h) refl) refl
 
     tally-kept : keptBy x v e .tally ≡ t
     tally-kept =
@@ -227,7 +234,7 @@ module _ (x : Lone) (v : Lent) (few : tooFew (x .store) (x .area) (v .out) ≡ f
     report-kept : isClose e ≡ false → stepReport s d own ws t out e ≡ out
     unfolding stepReport
     report-kept c =
-        read-same (λ (z : List ℕ). z) (isAccepted s d own ws t out e) (putReport s own e out) out out
+        read-same (λ (z : List ℕ). z) (stepAccepted s d own ws t out e) (putReport s own e out) out out
         (sym (no-close-put s own e out (ap (λ (b : Bool). b && isDone (storageAnswer s own e)) c))) refl
 
   -- the answer of a storage that is long enough
@@ -238,18 +245,18 @@ module _ (x : Lone) (v : Lent) (few : tooFew (x .store) (x .area) (v .out) ≡ f
   -- a send
   module _ (full : Bool) (j : ℕ) where
     abbrev said : Answer
-    said = listed s d ws
+    said = listAnswer s d ws
 
     own-send : answerOf (siteIn s) own (Send j) ≡ siteSend (siteIn s) j
     unfolding answerOf
     own-send = skip _ _ _ _ (le-ltb _ _ own-room) refl
 
-    send-plain : plainBy x v (Send j) ≡ sendAnswer s said j
-    send-plain = plain-own (Send j) refl ∙ ap (λ (a : Answer). firstOf a said) own-send
+    send-plain : plainBy x v (Send j) ≡ groupSendAnswer s said j
+    send-plain = plain-own (Send j) refl ∙ ap (λ (a : Answer). firstRefusal a said) own-send
 
     short-is : shortBy x full v (Send j) ≡ sendShort s said full j
     unfolding shortBy sendShort
-    short-is = ap (λ (a : Answer). isDone a && (leb ownShare (countOf x) && full)) send-plain
+    short-is = ap (λ (a : Answer). isDone a && (leb ownShare (sentCount x) && full)) send-plain
 
     taken-is : takenBy x full v (Send j) ≡ sendTaken s said full j
     unfolding takenBy sendTaken
@@ -258,7 +265,7 @@ module _ (x : Lone) (v : Lent) (few : tooFew (x .store) (x .area) (v .out) ≡ f
     send-stored : isDone (plainBy x v (Send j)) ≡ true → stepStore s d own ws t out (Send j) ≡ sentStore s j
     unfolding storeAfter
     send-stored a =
-        let q = both-done (siteSend (siteIn s) j) said (done-is (sendAnswer s said j) (ap isDone (sym send-plain) ∙ a)) in
+        let q = both-done (siteSend (siteIn s) j) said (done-is (groupSendAnswer s said j) (ap isDone (sym send-plain) ∙ a)) in
         step-kept (Send j) refl a ∙ hit _ _ _ (ap isDone (storage-own (Send j) ∙ own-send ∙ q .0))
 
     store-is : storeBy x full v (Send j) ≡ sendStore s said full j
@@ -269,8 +276,8 @@ module _ (x : Lone) (v : Lent) (few : tooFew (x .store) (x .area) (v .out) ≡ f
 
     pub send-turn : {r : ℕ} {b l y : List ℕ} → r ≡ sendNumber s said full j → b ≡ sendStore s said full j .bytes → l
         ≡ sendPlaces s said full j (x .number) (x .places) → y ≡ sendArea s said full j (x .places) (x .area)
-        → Turned x full v (Send j) (record { code = r; day = d; tally = t }) (s .words) b l y out
-    unfolding toldBy placesBy areaBy reportBy sendNumber sendPlaces sendArea sendStore sentStore
+        → DayAnswer x full v (Send j) (record { code = r; day = d; tally = t }) (s .words) b l y out
+    unfolding stepResultBy placesBy areaBy reportBy sendNumber sendPlaces sendArea sendStore sentStore
     send-turn {r} {b} {l} {y} e p q m =
         let T = takenBy x full v (Send j) in
         let c : r ≡ cond (shortBy x full v (Send j)) crowded (number (plainBy x v (Send j))) = e
@@ -291,7 +298,7 @@ module _ (x : Lone) (v : Lent) (few : tooFew (x .store) (x .area) (v .out) ≡ f
             (
               bb,
               (
-                q ∙ sym (ap (λ (b : Bool). cond b (nextPlaces (x .places) (x .number) (countOf x) (Send j)) (x .places)) taken-is),
+                q ∙ sym (ap (λ (b : Bool). cond b (nextPlaces (x .places) (x .number) (sentCount x) (Send j)) (x .places)) taken-is),
                 (
                   m ∙ sym (ap (λ (b : Bool). cond b (nextBytes (around x) (timedOf x) (Send j)) (x .area)) taken-is),
                   (o, (λ i. siteIn (store (ww i) (bb i))) ∙ site-by (Send j) refl full),
@@ -305,7 +312,7 @@ module _ (x : Lone) (v : Lent) (few : tooFew (x .store) (x .area) (v .out) ≡ f
   module _ (full : Bool) (e : Event) (h : isSend e ≡ false) where
     never-short : shortBy x full v e ≡ false
     unfolding shortBy
-    never-short = ap (λ (b : Bool). b && (isDone (plainBy x v e) && (leb ownShare (countOf x) && full))) h
+    never-short = ap (λ (b : Bool). b && (isDone (plainBy x v e) && (leb ownShare (sentCount x) && full))) h
 
     taken-done : takenBy x full v e ≡ isDone (plainBy x v e)
     unfolding takenBy
@@ -320,13 +327,13 @@ module _ (x : Lone) (v : Lent) (few : tooFew (x .store) (x .area) (v .out) ≡ f
         go false z = sym (ap f (refused-kept e (sym taken-done ∙ z)))
 
     -- from what the machine makes of the site with an area of its own
-    pub plain-turn-by : {r : Stepped} {w b l y o : List ℕ} → r
+    pub plain-turn-by : {r : StepResult} {w b l y o : List ℕ} → r
         ≡ record { code = number (plainBy x v e); day = keptBy x v e .timed .day; tally = keptBy x v e .tally } → store w b
         ≡ stepStore s d own ws t out e
-        → l ≡ cond (isDone (plainBy x v e)) (nextPlaces (x .places) (x .number) (countOf x) e) (x .places) → y
+        → l ≡ cond (isDone (plainBy x v e)) (nextPlaces (x .places) (x .number) (sentCount x) e) (x .places) → y
         ≡ cond (isDone (plainBy x v e)) (nextBytes (around x) (timedOf x) e) (x .area)
-        → o ≡ stepReport s d own ws t out e → siteIn (store w b) ≡ keptBy x v e .timed .site → Turned x full v e r w b l y o
-    unfolding toldBy storeBy siteBy placesBy areaBy reportBy stepReport
+        → o ≡ stepReport s d own ws t out e → siteIn (store w b) ≡ keptBy x v e .timed .site → DayAnswer x full v e r w b l y o
+    unfolding stepResultBy storeBy siteBy placesBy areaBy reportBy stepReport
     plain-turn-by {r} {w} {b} {l} {y} {o} p m u z q f =
         let T = takenBy x full v e in
         let c : number (plainBy x v e) ≡ cond (shortBy x full v e) crowded (number (plainBy x v e)) = sym (skip _ _ _ _ never-short refl) in
@@ -341,7 +348,7 @@ module _ (x : Lone) (v : Lent) (few : tooFew (x .store) (x .area) (v .out) ≡ f
             (
               ap (λ (z : Store). z .bytes) n,
               (
-                u ∙ sym (ap (λ (b : Bool). cond b (nextPlaces (x .places) (x .number) (countOf x) e) (x .places)) taken-done),
+                u ∙ sym (ap (λ (b : Bool). cond b (nextPlaces (x .places) (x .number) (sentCount x) e) (x .places)) taken-done),
                 (
                   z ∙ sym (ap (λ (b : Bool). cond b (nextBytes (around x) (timedOf x) e) (x .area)) taken-done),
                   (q ∙ sym (report-by T refl), f ∙ sym (kept-by (λ (k : Kept). k .timed .site))),
@@ -351,7 +358,7 @@ module _ (x : Lone) (v : Lent) (few : tooFew (x .store) (x .area) (v .out) ≡ f
           ),
         )
       where
-        refuses : takenBy x full v e ≡ false → isAccepted s d own ws t out e ≡ false
+        refuses : takenBy x full v e ≡ false → stepAccepted s d own ws t out e ≡ false
         refuses z = ap isDone (sym (plain-is e)) ∙ sym taken-done ∙ z
 
         store-by : (b : Bool) → takenBy x full v e ≡ b → cond b (stepStore s d own ws t out e) s ≡ stepStore s d own ws t out e
@@ -363,16 +370,16 @@ module _ (x : Lone) (v : Lent) (few : tooFew (x .store) (x .area) (v .out) ≡ f
         report-by false z = sym (skip _ _ _ _ (refuses z) refl)
 
   -- a hear
-  pub hear-turn : (full : Bool) (j p : ℕ) {r : ℕ} {w b : List ℕ} → r ≡ number (hearAnswer s own (listed s d ws) j p) → w
-      ≡ hearStore s own (listed s d ws) j p .words → b ≡ hearStore s own (listed s d ws) j p .bytes
-      → Turned x full v (Hear j p) (record { code = r; day = d; tally = t }) w b (x .places) (x .area) out
+  pub hear-turn : (full : Bool) (j p : ℕ) {r : ℕ} {w b : List ℕ} → r ≡ number (groupHearAnswer s own (listAnswer s d ws) j p) → w
+      ≡ hearStore s own (listAnswer s d ws) j p .words → b ≡ hearStore s own (listAnswer s d ws) j p .bytes
+      → DayAnswer x full v (Hear j p) (record { code = r; day = d; tally = t }) w b (x .places) (x .area) out
   unfolding hearStore storeAfter answerOf
   hear-turn full j p {r} {w} {b} e u z =
       let own-hear : answerOf (siteIn s) own (Hear j p) ≡ siteHear (siteIn s) own j p = skip _ _ _ _ (le-ltb _ _ own-room) refl in
-      let a : plainBy x v (Hear j p) ≡ hearAnswer s own (listed s d ws) j p = plain-own (Hear j p) refl
-      ∙ ap (λ (q : Answer). firstOf q (listed s d ws)) own-hear in
-      let m : store w b ≡ hearStore s own (listed s d ws) j p = λ i. record { words = u i; bytes = z i } in
-      let n : hearStore s own (listed s d ws) j p ≡ stepStore s d own ws t out (Hear j p) =
+      let a : plainBy x v (Hear j p) ≡ groupHearAnswer s own (listAnswer s d ws) j p = plain-own (Hear j p) refl
+      ∙ ap (λ (q : Answer). firstRefusal q (listAnswer s d ws)) own-hear in
+      let m : store w b ≡ hearStore s own (listAnswer s d ws) j p = λ i. record { words = u i; bytes = z i } in
+      let n : hearStore s own (listAnswer s d ws) j p ≡ stepStore s d own ws t out (Hear j p) =
       go a own-hear (isDone (plainBy x v (Hear j p))) refl in
       plain-turn-by full (Hear j p) refl
       (λ i. record { code = (e ∙ ap number (sym a)) i; day = sym (day-kept (Hear j p) refl) i; tally = sym (tally-kept (Hear j p) refl) i })
@@ -382,12 +389,13 @@ module _ (x : Lone) (v : Lent) (few : tooFew (x .store) (x .area) (v .out) ≡ f
       (sym (report-kept (Hear j p) refl refl))
       (ap siteIn (m ∙ n) ∙ site (isDone (plainBy x v (Hear j p))) refl)
     where
-      go : plainBy x v (Hear j p) ≡ hearAnswer s own (listed s d ws) j p → answerOf (siteIn s) own (Hear j p) ≡ siteHear (siteIn s) own j p
+      go : plainBy x v (Hear j p) ≡ groupHearAnswer s own (listAnswer s d ws) j p → answerOf (siteIn s) own (Hear j p)
+          ≡ siteHear (siteIn s) own j p
           → (c : Bool) → isDone (plainBy x v (Hear j p)) ≡ c
-          → hearStore s own (listed s d ws) j p ≡ stepStore s d own ws t out (Hear j p)
+          → hearStore s own (listAnswer s d ws) j p ≡ stepStore s d own ws t out (Hear j p)
       go a k true c =
-          let f = both-done (siteHear (siteIn s) own j p) (listed s d ws)
-          (done-is (hearAnswer s own (listed s d ws) j p) (ap isDone (sym a) ∙ c)) in
+          let f = both-done (siteHear (siteIn s) own j p) (listAnswer s d ws)
+          (done-is (groupHearAnswer s own (listAnswer s d ws) j p) (ap isDone (sym a) ∙ c)) in
           hit _ _ _ (ap isDone (sym a) ∙ c) ∙ sym (step-kept (Hear j p) refl c ∙ hit _ _ _ (ap isDone (storage-own (Hear j p) ∙ k ∙ f .0)))
       go a k false c = skip _ _ _ _ (ap isDone (sym a) ∙ c)
           (sym (store-refused s d own ws t out (Hear j p) (ap isDone (sym (plain-is (Hear j p))) ∙ c)))
@@ -402,11 +410,11 @@ module _ (x : Lone) (v : Lent) (few : tooFew (x .store) (x .area) (v .out) ≡ f
   -- any other event
   module _ (full : Bool) (e : Event) (no-send : isSend e ≡ false) (no-hear : isHear e ≡ false) where
     places-kept : (t : Bool) → cond (isClose e && t) (freed (x .number) (x .places)) (x .places)
-        ≡ cond t (nextPlaces (x .places) (x .number) (countOf x) e) (x .places)
+        ≡ cond t (nextPlaces (x .places) (x .number) (sentCount x) e) (x .places)
     places-kept t = go e no-send t
       where
         go : (e : Event) → isSend e ≡ false → (t : Bool) → cond (isClose e && t) (freed (x .number) (x .places)) (x .places)
-            ≡ cond t (nextPlaces (x .places) (x .number) (countOf x) e) (x .places)
+            ≡ cond t (nextPlaces (x .places) (x .number) (sentCount x) e) (x .places)
         go (Send j) h t = clash (isSend (Send j)) refl h
         go (Hear j p) h t = either t _
         go Close h t = refl
@@ -429,12 +437,12 @@ module _ (x : Lone) (v : Lent) (few : tooFew (x .store) (x .area) (v .out) ≡ f
         go (Crash j) h t = either t _
         go (Restart j flags) h t = either t _
 
-    pub other-turn : {r : Stepped} {w b l y o : List ℕ} {gone : Bool} → r ≡ stepped s d (x .area) ws t out e
+    pub other-turn : {r : StepResult} {w b l y o : List ℕ} {gone : Bool} → r ≡ stepResult s d (x .area) ws t out e
         → w ≡ stepStore s d (x .area) ws t out e .words → b ≡ stepStore s d (x .area) ws t out e .bytes → o
         ≡ stepReport s d (x .area) ws t out e
         → keptIn (store w b) (r .day) y (r .tally) ≡ stepKept s d (x .area) ws t out e
         → gone ≡ (isClose e && isDone (stepAnswer s d (x .area) ws t out e)) → l ≡ cond gone (freed (x .number) (x .places)) (x .places)
-        → Turned x full v e r w b l y o
+        → DayAnswer x full v e r w b l y o
     other-turn {r} {w} {b} {l} {y} {o} {gone} p q m n k g f =
         let a : stepAnswer s d (x .area) ws t out e ≡ plainBy x v e = step-answer (x .area) own room own-room ws e no-hear s d t out
         ∙ sym (plain-is e) in
@@ -452,18 +460,18 @@ module _ (x : Lone) (v : Lent) (few : tooFew (x .store) (x .area) (v .out) ≡ f
         (ap (λ (z : Kept). z .timed .site) k ∙ ap (λ (z : Timed). z .site) time)
 
 -- what is no send does not look at the common places
-pub unfull : (x : Lone) (v : Lent) (full : Bool) (e : Event) → isSend e ≡ false → {r : Stepped} {w b l y o : List ℕ}
-    → Turned x false v e r w b l y o → Turned x full v e r w b l y o
-unfolding toldBy storeBy siteBy placesBy areaBy reportBy takenBy shortBy
+pub unfull : (x : OneSite) (v : Lent) (full : Bool) (e : Event) → isSend e ≡ false → {r : StepResult} {w b l y o : List ℕ}
+    → DayAnswer x false v e r w b l y o → DayAnswer x full v e r w b l y o
+unfolding stepResultBy storeBy siteBy placesBy areaBy reportBy takenBy shortBy
 unfull x v full e h {r} {w} {b} {l} {y} {o} z =
     subst (λ (s : Bool). (r ≡ told s)
     × ((w ≡ st s .words) × ((b ≡ st s .bytes) × ((l ≡ pl s) × ((y ≡ ar s) × ((o ≡ re s) × (siteIn (store w b) ≡ si s))))))) q z
   where
     q : shortBy x false v e ≡ shortBy x full v e
-    q = ap (λ (b : Bool). b && (isDone (plainBy x v e) && (leb ownShare (countOf x) && false))) h
-        ∙ sym (ap (λ (b : Bool). b && (isDone (plainBy x v e) && (leb ownShare (countOf x) && full))) h)
+    q = ap (λ (b : Bool). b && (isDone (plainBy x v e) && (leb ownShare (sentCount x) && false))) h
+        ∙ sym (ap (λ (b : Bool). b && (isDone (plainBy x v e) && (leb ownShare (sentCount x) && full))) h)
 
-    told : Bool → Stepped
+    told : Bool → StepResult
     told s =
         record {
           code = cond s crowded (number (plainBy x v e));
@@ -472,16 +480,17 @@ unfull x v full e h {r} {w} {b} {l} {y} {o} z =
         }
 
     st : Bool → Store
-    st s = cond (isDone (plainBy x v e) && not s) (stepStore (x .store) (x .day) (ownOf x) (v .windows) (v .tally) (v .out) e) (x .store)
+    st s = cond (isDone (plainBy x v e) && not s)
+        (stepStore (x .store) (x .day) (ownAreaOf x) (v .windows) (v .tally) (v .out) e) (x .store)
 
     si : Bool → Site
     si s = cond (isDone (plainBy x v e) && not s) (keptBy x v e .timed .site) (siteIn (x .store))
 
     pl : Bool → List ℕ
-    pl s = cond (isDone (plainBy x v e) && not s) (nextPlaces (x .places) (x .number) (countOf x) e) (x .places)
+    pl s = cond (isDone (plainBy x v e) && not s) (nextPlaces (x .places) (x .number) (sentCount x) e) (x .places)
 
     ar : Bool → List ℕ
     ar s = cond (isDone (plainBy x v e) && not s) (nextBytes (around x) (timedOf x) e) (x .area)
 
     re : Bool → List ℕ
-    re s = cond (isDone (plainBy x v e) && not s) (stepReport (x .store) (x .day) (ownOf x) (v .windows) (v .tally) (v .out) e) (v .out)
+    re s = cond (isDone (plainBy x v e) && not s) (stepReport (x .store) (x .day) (ownAreaOf x) (v .windows) (v .tally) (v .out) e) (v .out)

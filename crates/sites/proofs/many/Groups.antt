@@ -27,32 +27,37 @@ use Rattle.windows.specs.declared.Window.{Window}
 use Rattle.machine.specs.hours.Hours.{Timed, firstEpoch, timedLoadAnswer, loadedTimed, timedAnswer, timedAfter}
 use Rattle.machine.specs.hours.Stored.{timedIn, storedLoadAnswer, timedLoadedStore, timedLoadedSite}
 use Rattle.machine.proofs.hours.Stored.{as-begun}
-use Rattle.machine.specs.turn.Kept.{firstOf}
-use Rattle.machine.specs.turn.Stored.{stepAnswer, isAccepted, stepStore, stepReport, stepKept}
+use Rattle.machine.specs.turn.Kept.{firstRefusal}
+use Rattle.machine.specs.turn.Stored.{stepAnswer, stepAccepted, stepStore, stepReport, stepKept}
 use Rattle.machine.proofs.turn.Laws.{step-accepts, step-timed}
 use Rattle.sites.specs.declared.Tallied.{Tallied}
 use Rattle.group.specs.Places.{topPlaces, freed}
-use Rattle.group.specs.Group.{Seat, Empty, Taken, Group, isNumber, seatOf, packetsIn, ownShare, commonShare, beyond, common, ownArea}
-use Rattle.group.specs.Calls.{GroupCall, LoadSite, isSend, seatAnswer, plainAnswer, isCrowded, crowded, answerTo}
+use Rattle.group.specs.Group.{SiteSlot, Empty, Taken, Group, isNumber, siteSlotOf, packetsIn, ownShare, commonShare, beyond, common}
+use Rattle.group.specs.Group.{ownArea}
+use Rattle.group.specs.Calls.{GroupCall, LoadSite, isSend, siteSlotAnswer, plainAnswer, isCrowded, crowded, answerTo}
 use Rattle.group.specs.Calls as group
 use Rattle.group.specs.Steps.{nextPlaces, nextBytes, nextBy, nextGroup, afterGroup}
 use Rattle.group.proofs.Ground.{number-is}
 use Rattle.group.proofs.Places.{length-freed}
-use Rattle.sites.specs.many.Memory.{Memory, memory, Lent, tooFew, storeAt, isTaken, dayAt, seatIn, isLoaded, loadedAnswer, placesIn}
+use Rattle.sites.specs.many.Memory.{Memory, memory, Lent, groupTooShort, storeAt, isTaken, dayAt, siteSlotIn, isLoaded, loadedAnswer}
+use Rattle.sites.specs.many.Memory.{placesIn}
 use Rattle.sites.specs.many.Memory.{groupIn, storeWords, storeBytes, tableWith}
-use Rattle.sites.specs.many.Calls.{loadAnswer, loadedMemory, afterLoad, groupLoaded, eventCall, ownIn, ownAnswer, eventAnswer}
-use Rattle.sites.specs.many.Calls.{isHeeded, ownKept, nextMemory, afterEvent, areaAfter, tallyAfter, reportAfter, groupAfter}
-use Rattle.sites.specs.many.Calls.{eventTold}
-use Rattle.sites.specs.many.Inner.{Lone, around, timedOf, countOf, ownOf, keptBy, plainBy, shortBy, takenBy, toldBy, storeBy, siteBy}
-use Rattle.sites.specs.many.Inner.{placesBy, areaBy, reportBy, commonIn, isFull, loneIn, memoryBy, loadedBy, Sized}
+use Rattle.sites.specs.many.Calls.{groupLoadAnswer, loadedMemory, afterLoad, groupLoaded, eventCall, ownAreaIn, siteStepAnswer}
+use Rattle.sites.specs.many.Calls.{groupEventAnswer}
+use Rattle.sites.specs.many.Calls.{isHeeded, ownKept, nextMemory, afterEvent, groupAreaAfter, groupTallyAfter, reportAfter}
+use Rattle.sites.specs.many.Calls.{groupAfter}
+use Rattle.sites.specs.many.Calls.{groupEventTallied}
+use Rattle.sites.specs.many.Inner.{OneSite, around, timedOf, sentCount, ownAreaOf, keptBy, plainBy, shortBy, takenBy, stepResultBy}
+use Rattle.sites.specs.many.Inner.{storeBy, siteBy}
+use Rattle.sites.specs.many.Inner.{placesBy, areaBy, reportBy, commonIn, commonFull, loneIn, memoryBy, loadedBy, Sized}
 use Rattle.sites.proofs.many.Lists.{length-span, span-again}
 use Rattle.sites.proofs.many.Memories.{Lengths, lengths, group-then, same-again}
 
 -- memory that is long enough
 abbrev grouped : Memory → List ℕ → Group
-grouped m area = record { seats = tab 8 (seatIn m); places = placesIn (m .table); area = area }
+grouped m area = record { siteSlots = tab 8 (siteSlotIn m); places = placesIn (m .table); area = area }
 
-group-is : (m : Memory) (area : List ℕ) → tooFew m ≡ false → groupIn m area ≡ grouped m area
+group-is : (m : Memory) (area : List ℕ) → groupTooShort m ≡ false → groupIn m area ≡ grouped m area
 unfolding groupIn
 group-is m area h = skip _ _ _ _ h refl
 
@@ -67,20 +72,20 @@ and-false false = refl
 -- what an event answers, writes and stands for
 abbrev pub EventIs : Memory → List ℕ → ℕ → Lent → Event → Tallied → List ℕ → List ℕ → List ℕ → List ℕ → List ℕ → Type 0
 EventIs m area a v e r w b t y o =
-    (r ≡ eventTold m area a v e)
+    (r ≡ groupEventTallied m area a v e)
     × ((w ≡ afterEvent m area a v e .words)
     × ((b ≡ afterEvent m area a v e .bytes)
     × ((t ≡ afterEvent m area a v e .table)
-    × ((y ≡ areaAfter m area a v e) × ((o ≡ reportAfter m area a v e) × (groupIn (memory w b t) y ≡ groupAfter m area a v e))))))
+    × ((y ≡ groupAreaAfter m area a v e) × ((o ≡ reportAfter m area a v e) × (groupIn (memory w b t) y ≡ groupAfter m area a v e))))))
 
 -- a refused event leaves all as it was
 pub not-heeded : (m : Memory) (area : List ℕ) (a : ℕ) (v : Lent) (e : Event) {n : ℕ} → isHeeded m area a v e ≡ false → n
-    ≡ number (eventAnswer m area a v e)
+    ≡ number (groupEventAnswer m area a v e)
     → EventIs m area a v e (record { code = n; tally = v .tally }) (m .words) (m .bytes) (m .table) area (v .out)
-unfolding afterEvent areaAfter tallyAfter reportAfter groupAfter
+unfolding afterEvent groupAreaAfter groupTallyAfter reportAfter groupAfter
 not-heeded m area a v e {n} h k =
     let q : m ≡ afterEvent m area a v e = sym (skip _ _ _ _ h refl) in
-    let t : v .tally ≡ tallyAfter m area a v e = sym (skip _ _ _ _ h refl) in (
+    let t : v .tally ≡ groupTallyAfter m area a v e = sym (skip _ _ _ _ h refl) in (
       (λ i. record { code = k i; tally = t i }),
       (
         ap (λ (x : Memory). x .words) q,
@@ -95,14 +100,14 @@ not-heeded m area a v e {n} h k =
 pub not-loaded : (m : Memory) (area : List ℕ) (a : ℕ) (v : Lent) (e : Event) {n : ℕ} → isDone (loadedAnswer m a) ≡ false → n
     ≡ number (loadedAnswer m a)
     → EventIs m area a v e (record { code = n; tally = v .tally }) (m .words) (m .bytes) (m .table) area (v .out)
-unfolding eventAnswer
+unfolding groupEventAnswer
 not-loaded m area a v e h k =
-    let q : eventAnswer m area a v e ≡ loadedAnswer m a = skip _ _ _ _ h refl in
+    let q : groupEventAnswer m area a v e ≡ loadedAnswer m a = skip _ _ _ _ h refl in
     not-heeded m area a v e (ap isDone q ∙ h) (k ∙ ap number (sym q))
 
 pub loaded-here : (m : Memory) (a : ℕ) → isDone (loadedAnswer m a) ≡ true → isLoaded m a ≡ true
 unfolding loadedAnswer
-loaded-here m a h = go (isLoaded m a) (isNumber a && tooFew m) refl h
+loaded-here m a h = go (isLoaded m a) (isNumber a && groupTooShort m) refl h
   where
     go : (b c : Bool) → isLoaded m a ≡ b → isDone (cond b Done (cond c NoRoom NoSuchNode)) ≡ true → isLoaded m a ≡ true
     go true c k q = k
@@ -113,14 +118,14 @@ loaded-here m a h = go (isLoaded m a) (isNumber a && tooFew m) refl h
 module _ (m : Memory) (a : ℕ) (h : isLoaded m a ≡ true) where
   pub loaded-number : isNumber a ≡ true
   unfolding isLoaded
-  loaded-number = and-left (isNumber a) (not (tooFew m) && isTaken (m .table) (a - 1)) h
+  loaded-number = and-left (isNumber a) (not (groupTooShort m) && isTaken (m .table) (a - 1)) h
 
-  loaded-rest : (not (tooFew m) && isTaken (m .table) (a - 1)) ≡ true
+  loaded-rest : (not (groupTooShort m) && isTaken (m .table) (a - 1)) ≡ true
   unfolding isLoaded
-  loaded-rest = and-right (isNumber a) (not (tooFew m) && isTaken (m .table) (a - 1)) h
+  loaded-rest = and-right (isNumber a) (not (groupTooShort m) && isTaken (m .table) (a - 1)) h
 
-  long : tooFew m ≡ false
-  long = not-true-is (tooFew m) (and-left (not (tooFew m)) (isTaken (m .table) (a - 1)) loaded-rest)
+  long : groupTooShort m ≡ false
+  long = not-true-is (groupTooShort m) (and-left (not (groupTooShort m)) (isTaken (m .table) (a - 1)) loaded-rest)
     where
       not-true-is : (b : Bool) → not b ≡ true → b ≡ false
       not-true-is true k = sym k
@@ -130,7 +135,7 @@ module _ (m : Memory) (a : ℕ) (h : isLoaded m a ≡ true) where
   loaded-lengths = lengths m long
 
   taken-here : isTaken (m .table) (a - 1) ≡ true
-  taken-here = and-right (not (tooFew m)) (isTaken (m .table) (a - 1)) loaded-rest
+  taken-here = and-right (not (groupTooShort m)) (isTaken (m .table) (a - 1)) loaded-rest
 
   low : a - 1 < 8
   low = let n = number-is a loaded-number in omega (arith, n .from, n .to)
@@ -142,38 +147,38 @@ module _ (m : Memory) (area : List ℕ) (a : ℕ) (v : Lent) (e : Event) (h : is
   abbrev G : Group
   G = grouped m area
 
-  abbrev x : Lone
+  abbrev x : OneSite
   x = loneIn m area i a
 
   abbrev full : Bool
-  full = isFull m e
+  full = commonFull m e
 
   abbrev c : GroupCall
   c = eventCall a (v .windows) e
 
-  seat-is : seatOf G a ≡ Taken (timedOf x)
-  unfolding seatIn
-  seat-is = hit _ _ _ (loaded-number m a h) ∙ getD-tab Empty 8 (seatIn m) i (low m a h) ∙ hit _ _ _ (taken-here m a h)
+  site-slot-is : siteSlotOf G a ≡ Taken (timedOf x)
+  unfolding siteSlotIn
+  site-slot-is = hit _ _ _ (loaded-number m a h) ∙ getD-tab Empty 8 (siteSlotIn m) i (low m a h) ∙ hit _ _ _ (taken-here m a h)
 
-  own-is : ownArea G a (countOf x) ≡ ownOf x
+  own-is : ownArea G a (sentCount x) ≡ ownAreaOf x
   unfolding ownArea
   own-is = refl
 
   -- the group's own answer, but for 17
-  group-plain : plainAnswer G c ≡ cond (ltb (length area) areaSize) NoRoom (timedAnswer (timedOf x) (ownOf x) (v .windows) e)
+  group-plain : plainAnswer G c ≡ cond (ltb (length area) areaSize) NoRoom (timedAnswer (timedOf x) (ownAreaOf x) (v .windows) e)
   unfolding plainAnswer
   group-plain =
-      ap (λ (s : Seat). seatAnswer G a s (record { event = e; windows = v .windows })) seat-is
+      ap (λ (s : SiteSlot). siteSlotAnswer G a s (record { event = e; windows = v .windows })) site-slot-is
       ∙ ap (λ (o : List ℕ). cond (ltb (length area) areaSize) NoRoom (timedAnswer (timedOf x) o (v .windows) e)) own-is
 
   -- what the machine accepts the group accepts
   own-done : isDone (plainBy x v e) ≡ true → (ltb (length area) areaSize ≡ false)
-      × (isAccepted (x .store) (x .day) (ownOf x) (v .windows) (v .tally) (v .out) e ≡ true)
+      × (stepAccepted (x .store) (x .day) (ownAreaOf x) (v .windows) (v .tally) (v .out) e ≡ true)
   unfolding plainBy
   own-done d = go (ltb (length area) areaSize) refl
     where
       go : (b : Bool) → ltb (length area) areaSize ≡ b → (ltb (length area) areaSize ≡ false)
-          × (isAccepted (x .store) (x .day) (ownOf x) (v .windows) (v .tally) (v .out) e ≡ true)
+          × (stepAccepted (x .store) (x .day) (ownAreaOf x) (v .windows) (v .tally) (v .out) e ≡ true)
       go true k = never (sym (sym (ap isDone (hit _ NoRoom _ k)) ∙ d))
       go false k = (k, sym (ap isDone (skip _ NoRoom _ _ k refl)) ∙ d)
 
@@ -181,15 +186,15 @@ module _ (m : Memory) (area : List ℕ) (a : ℕ) (v : Lent) (e : Event) (h : is
   plain-done d =
       let q = own-done d in
       ap isDone (group-plain ∙ skip _ _ _ _ (q .0) refl)
-      ∙ step-accepts (x .store) (x .day) (ownOf x) (v .windows) (v .tally) (v .out) e (q .1)
+      ∙ step-accepts (x .store) (x .day) (ownAreaOf x) (v .windows) (v .tally) (v .out) e (q .1)
 
   -- where nothing else is to be said, 17 is the group's
   crowd-is : isDone (plainBy x v e) ≡ true → isCrowded G c ≡ shortBy x full v e
   unfolding isCrowded shortBy common commonIn
   crowd-is d =
       (λ k. isSend e && ((plain-done d ∙ sym d) k
-      && (leb ownShare (packetsIn (seat-is k)) && leb commonShare (total (map beyond (tab 8 (seatIn m)))))))
-      ∙ go (isSend e) (isDone (plainBy x v e)) (leb ownShare (countOf x)) (leb commonShare (total (map beyond (tab 8 (seatIn m)))))
+      && (leb ownShare (packetsIn (site-slot-is k)) && leb commonShare (total (map beyond (tab 8 (siteSlotIn m)))))))
+      ∙ go (isSend e) (isDone (plainBy x v e)) (leb ownShare (sentCount x)) (leb commonShare (total (map beyond (tab 8 (siteSlotIn m)))))
     where
       go : (b p q r : Bool) → (b && (p && (q && r))) ≡ (b && (p && (q && (b && r))))
       go true p q r = refl
@@ -197,9 +202,9 @@ module _ (m : Memory) (area : List ℕ) (a : ℕ) (v : Lent) (e : Event) (h : is
 
   no-crowd : isDone (plainBy x v e) ≡ false → shortBy x full v e ≡ false
   unfolding shortBy
-  no-crowd d = ap (λ (b : Bool). isSend e && (b && (leb ownShare (countOf x) && full))) d ∙ and-false (isSend e)
+  no-crowd d = ap (λ (b : Bool). isSend e && (b && (leb ownShare (sentCount x) && full))) d ∙ and-false (isSend e)
 
-  accept-is : takenBy x full v e ≡ true → group.isAccepted G c ≡ true
+  accept-is : takenBy x full v e ≡ true → group.groupAccepts G c ≡ true
   unfolding takenBy
   accept-is k =
       let d = and-left (isDone (plainBy x v e)) (not (shortBy x full v e)) k in
@@ -208,29 +213,29 @@ module _ (m : Memory) (area : List ℕ) (a : ℕ) (v : Lent) (e : Event) (h : is
   whole : groupIn m area ≡ G
   whole = group-is m area (long m a h)
 
-  own-in : ownIn m area a ≡ ownOf x
-  own-in = ap (λ (g : Group). ownArea g a (countOf x)) whole ∙ own-is
+  own-in : ownAreaIn m area a ≡ ownAreaOf x
+  own-in = ap (λ (g : Group). ownArea g a (sentCount x)) whole ∙ own-is
 
-  own-answer : ownAnswer m area a v e ≡ plainBy x v e
-  unfolding ownAnswer plainBy
+  own-answer : siteStepAnswer m area a v e ≡ plainBy x v e
+  unfolding siteStepAnswer plainBy
   own-answer = ap (λ (o : List ℕ). cond (ltb (length area) areaSize) NoRoom
       (stepAnswer (x .store) (x .day) o (v .windows) (v .tally) (v .out) e)) own-in
 
-  answer-is : number (eventAnswer m area a v e) ≡ toldBy x full v e .code
-  unfolding eventAnswer loadedAnswer toldBy
+  answer-is : number (groupEventAnswer m area a v e) ≡ stepResultBy x full v e .code
+  unfolding groupEventAnswer loadedAnswer stepResultBy
   answer-is =
-      ap number (ap (λ (b : Bool). firstOf (cond b Done (cond (isNumber a && tooFew m) NoRoom NoSuchNode)) last) h)
-      ∙ ap₂ (λ (z : Answer) (g : Group). number (firstOf z (cond (isCrowded g c) Crowded Done))) own-answer whole
+      ap number (ap (λ (b : Bool). firstRefusal (cond b Done (cond (isNumber a && groupTooShort m) NoRoom NoSuchNode)) last) h)
+      ∙ ap₂ (λ (z : Answer) (g : Group). number (firstRefusal z (cond (isCrowded g c) Crowded Done))) own-answer whole
       ∙ go (isDone (plainBy x v e)) refl
     where
       last : Answer
-      last = firstOf (ownAnswer m area a v e) (cond (isCrowded (groupIn m area) c) Crowded Done)
+      last = firstRefusal (siteStepAnswer m area a v e) (cond (isCrowded (groupIn m area) c) Crowded Done)
 
       numbers : (b : Bool) → number (cond b Crowded Done) ≡ cond b crowded 0
       numbers true = refl
       numbers false = refl
 
-      go : (b : Bool) → isDone (plainBy x v e) ≡ b → number (firstOf (plainBy x v e) (cond (isCrowded G c) Crowded Done))
+      go : (b : Bool) → isDone (plainBy x v e) ≡ b → number (firstRefusal (plainBy x v e) (cond (isCrowded G c) Crowded Done))
           ≡ cond (shortBy x full v e) crowded (number (plainBy x v e))
       go true d =
           ap number (hit _ _ _ d)
@@ -244,7 +249,7 @@ module _ (m : Memory) (area : List ℕ) (a : ℕ) (v : Lent) (e : Event) (h : is
   taken-plain k = and-left (isDone (plainBy x v e)) (not (shortBy x full v e)) k
 
   heed-is : isHeeded m area a v e ≡ takenBy x full v e
-  unfolding toldBy takenBy
+  unfolding stepResultBy takenBy
   heed-is = ap (λ (n : ℕ). eqb n 0) answer-is ∙ go (shortBy x full v e) (number (plainBy x v e))
     where
       go : (b : Bool) (n : ℕ) → eqb (cond b crowded n) 0 ≡ (eqb n 0 && not b)
@@ -265,27 +270,27 @@ module _ (m : Memory) (area : List ℕ) (a : ℕ) (v : Lent) (e : Event) (h : is
       go (Restart j flags) = refl
 
   next-is : nextGroup G c ≡ record {
-    seats = set (tab 8 (seatIn m)) i (Taken (timedAfter (timedOf x) (ownOf x) (v .windows) e));
-    places = nextPlaces (placesIn (m .table)) a (countOf x) e;
+    siteSlots = set (tab 8 (siteSlotIn m)) i (Taken (timedAfter (timedOf x) (ownAreaOf x) (v .windows) e));
+    places = nextPlaces (placesIn (m .table)) a (sentCount x) e;
     area = nextBytes (around x) (timedOf x) e;
   }
   unfolding nextGroup
   next-is =
-      ap (λ (s : Seat). nextBy G a s (record { event = e; windows = v .windows })) seat-is
+      ap (λ (s : SiteSlot). nextBy G a s (record { event = e; windows = v .windows })) site-slot-is
       ∙ (λ k. record {
-        seats = set (tab 8 (seatIn m)) i (Taken (timedAfter (timedOf x) (own-is k) (v .windows) e));
-        places = nextPlaces (placesIn (m .table)) a (countOf x) e;
+        siteSlots = set (tab 8 (siteSlotIn m)) i (Taken (timedAfter (timedOf x) (own-is k) (v .windows) e));
+        places = nextPlaces (placesIn (m .table)) a (sentCount x) e;
         area = bytes-is k;
       })
 
   -- a refused event leaves all as it was
   module _ (no : takenBy x full v e ≡ false) where
     memory-kept : memoryBy m area i a v e ≡ m
-    unfolding memoryBy storeBy placesBy toldBy
+    unfolding memoryBy storeBy placesBy stepResultBy
     memory-kept =
         let s : storeBy x full v e ≡ storeAt m i = skip _ _ _ _ no refl in
         let p : placesBy x full v e ≡ placesIn (m .table) = skip _ _ _ _ no refl in
-        let d : toldBy x full v e .day ≡ dayAt (m .table) i = skip _ _ _ _ no refl in
+        let d : stepResultBy x full v e .day ≡ dayAt (m .table) i = skip _ _ _ _ no refl in
         (λ k. memory (storeWords m i (s k)) (storeBytes m i (s k)) (tableWith (m .table) (p k) i (d k)))
         ∙ same-again m (loaded-lengths m a h) i (low m a h) (taken-here m a h)
 
@@ -294,27 +299,28 @@ module _ (m : Memory) (area : List ℕ) (a : ℕ) (v : Lent) (e : Event) (h : is
     area-kept = skip _ _ _ _ no refl
 
   memory-is : memoryBy m area i a v e ≡ afterEvent m area a v e
-  unfolding afterEvent memoryBy storeBy placesBy toldBy
+  unfolding afterEvent memoryBy storeBy placesBy stepResultBy
   memory-is = go (takenBy x full v e) refl
     where
       go : (t : Bool) → takenBy x full v e ≡ t → memoryBy m area i a v e ≡ cond (isHeeded m area a v e) (nextMemory m area a v e) m
       go true k =
-          let s : storeBy x full v e ≡ stepStore (storeAt m i) (dayAt (m .table) i) (ownIn m area a) (v .windows) (v .tally) (v .out) e =
+          let s : storeBy x full v e ≡ stepStore (storeAt m i) (dayAt (m .table) i) (ownAreaIn m area a) (v .windows)
+          (v .tally) (v .out) e =
           hit _ _ _ k ∙ ap (λ (o : List ℕ). stepStore (storeAt m i) (dayAt (m .table) i) o (v .windows) (v .tally) (v .out) e) (sym own-in)
           in
-          let p : placesBy x full v e ≡ nextPlaces (placesIn (m .table)) a (countOf x) e = hit _ _ _ k in
-          let d : toldBy x full v e .day ≡ ownKept m area a v e .timed .day =
+          let p : placesBy x full v e ≡ nextPlaces (placesIn (m .table)) a (sentCount x) e = hit _ _ _ k in
+          let d : stepResultBy x full v e .day ≡ ownKept m area a v e .timed .day =
           hit _ _ _ k ∙ ap (λ (o : List ℕ). stepKept (storeAt m i) (dayAt (m .table) i) o (v .windows) (v .tally) (v .out) e .timed .day)
           (sym own-in) in
           (λ j. memory (storeWords m i (s j)) (storeBytes m i (s j)) (tableWith (m .table) (p j) i (d j))) ∙ sym (hit _ _ _ (heed-is ∙ k))
       go false k = memory-kept k ∙ sym (skip _ _ _ _ (heed-is ∙ k) refl)
 
-  area-is : areaBy x full v e ≡ areaAfter m area a v e
-  unfolding areaBy areaAfter
+  area-is : areaBy x full v e ≡ groupAreaAfter m area a v e
+  unfolding areaBy groupAreaAfter
   area-is = λ k. cond (sym heed-is k) (sym (ap (λ (g : Group). nextBytes g (timedOf x) e) whole ∙ bytes-is) k) area
 
-  tally-is : toldBy x full v e .tally ≡ tallyAfter m area a v e
-  unfolding toldBy tallyAfter
+  tally-is : stepResultBy x full v e .tally ≡ groupTallyAfter m area a v e
+  unfolding stepResultBy groupTallyAfter
   tally-is = λ k. cond (sym heed-is k)
       (stepKept (storeAt m i) (dayAt (m .table) i) (sym own-in k) (v .windows) (v .tally) (v .out) e .tally) (v .tally)
 
@@ -326,27 +332,32 @@ module _ (m : Memory) (area : List ℕ) (a : ℕ) (v : Lent) (e : Event) (h : is
   module _ (sized : Sized (storeBy x full v e)) (placed : length (placesBy x full v e) ≡ topPlaces)
       (stands : siteIn (storeBy x full v e) ≡ siteBy x full v e) where
     after-is : groupIn (memoryBy m area i a v e) (areaBy x full v e) ≡ cond (isHeeded m area a v e) (afterGroup G c) G
-    unfolding memoryBy afterGroup siteBy placesBy areaBy toldBy
+    unfolding memoryBy afterGroup siteBy placesBy areaBy stepResultBy
     after-is = go (takenBy x full v e) refl
       where
         go : (t : Bool) → takenBy x full v e ≡ t → groupIn (memoryBy m area i a v e) (areaBy x full v e)
             ≡ cond (isHeeded m area a v e) (afterGroup G c) G
         go true k =
-            let time : keptBy x v e .timed ≡ timedAfter (timedOf x) (ownOf x) (v .windows) e =
-            step-timed (x .store) (x .day) (ownOf x) (v .windows) (v .tally) (v .out) e (own-done (taken-plain k) .1) in
+            let time : keptBy x v e .timed ≡ timedAfter (timedOf x) (ownAreaOf x) (v .windows) e =
+            step-timed (x .store) (x .day) (ownAreaOf x) (v .windows) (v .tally) (v .out) e (own-done (taken-plain k) .1) in
             let s = stands ∙ hit _ _ _ k ∙ ap (λ (z : Timed). z .site) time in
-            let d : toldBy x full v e .day ≡ timedAfter (timedOf x) (ownOf x) (v .windows) e .day = hit _ _ _ k
+            let d : stepResultBy x full v e .day ≡ timedAfter (timedOf x) (ownAreaOf x) (v .windows) e .day = hit _ _ _ k
             ∙ ap (λ (z : Timed). z .day) time in
-            let p : placesBy x full v e ≡ nextPlaces (placesIn (m .table)) a (countOf x) e = hit _ _ _ k in
+            let p : placesBy x full v e ≡ nextPlaces (placesIn (m .table)) a (sentCount x) e = hit _ _ _ k in
             let y : areaBy x full v e ≡ nextBytes (around x) (timedOf x) e = hit _ _ _ k in
             group-then m (loaded-lengths m a h) i (low m a h) (storeBy x full v e) sized (placesBy x full v e) placed
-            (toldBy x full v e .day) (areaBy x full v e)
-            ∙ (λ j. record { seats = set (tab 8 (seatIn m)) i (Taken (record { site = s j; day = d j })); places = p j; area = y j })
+            (stepResultBy x full v e .day) (areaBy x full v e)
+            ∙ (λ j. record {
+              siteSlots = set (tab 8 (siteSlotIn m)) i (Taken (record { site = s j; day = d j }));
+              places = p j;
+              area = y j;
+            })
             ∙ sym (hit _ _ _ (accept-is k) ∙ next-is)
             ∙ sym (hit _ _ _ (heed-is ∙ k))
         go false k = ap₂ groupIn (memory-kept k) (area-kept k) ∙ whole ∙ sym (skip _ _ _ _ (heed-is ∙ k) refl)
 
-    pub loaded-event : {r : Tallied} {w b t y o : List ℕ} → r ≡ record { code = toldBy x full v e .code; tally = toldBy x full v e .tally }
+    pub loaded-event : {r : Tallied} {w b t y o : List ℕ} → r
+        ≡ record { code = stepResultBy x full v e .code; tally = stepResultBy x full v e .tally }
         → w ≡ memoryBy m area i a v e .words → b ≡ memoryBy m area i a v e .bytes → t ≡ memoryBy m area i a v e .table → y
         ≡ areaBy x full v e
         → o ≡ reportBy x full v e → EventIs m area a v e r w b t y o
@@ -375,22 +386,22 @@ module _ (m : Memory) (area : List ℕ) (a : ℕ) (v : Lent) (e : Event) (h : is
         )
 
 -- of memory that is long enough the answer to a load is the group's
-pub load-answers : (m : Memory) (area : List ℕ) (a : ℕ) (f : Config) (t : Table) (D : ℕ) (ws : List Window) → tooFew m ≡ false
-    → number (loadAnswer m a f t D ws) ≡ answerTo (groupIn m area) (LoadSite a f t D ws)
-unfolding loadAnswer answerTo isCrowded plainAnswer
+pub load-answers : (m : Memory) (area : List ℕ) (a : ℕ) (f : Config) (t : Table) (D : ℕ) (ws : List Window) → groupTooShort m ≡ false
+    → number (groupLoadAnswer m a f t D ws) ≡ answerTo (groupIn m area) (LoadSite a f t D ws)
+unfolding groupLoadAnswer answerTo isCrowded plainAnswer
 load-answers m area a f t D ws h = ap (λ (x : Answer). number (cond (isNumber a) x NoSuchNode)) (skip _ _ _ _ h refl)
 
 -- what a load answers, writes and stands for
 module _ (m : Memory) (a : ℕ) (f : Config) (t : Table) (D : ℕ) (ws : List Window) where
   abbrev pub LoadIs : ℕ → List ℕ → List ℕ → List ℕ → Type 0
   LoadIs r w b l =
-      (r ≡ number (loadAnswer m a f t D ws))
+      (r ≡ number (groupLoadAnswer m a f t D ws))
       × ((w ≡ afterLoad m a f t D ws .words)
       × ((b ≡ afterLoad m a f t D ws .bytes)
       × ((l ≡ afterLoad m a f t D ws .table) × ((area : List ℕ) → groupIn (memory w b l) area ≡ groupLoaded m area a f t D ws))))
 
   -- nothing is written
-  kept-load : {r : ℕ} (x : Answer) → loadAnswer m a f t D ws ≡ x → isDone x ≡ false → r ≡ number x
+  kept-load : {r : ℕ} (x : Answer) → groupLoadAnswer m a f t D ws ≡ x → isDone x ≡ false → r ≡ number x
       → ((area : List ℕ) → groupIn m area ≡ groupLoaded m area a f t D ws) → LoadIs r (m .words) (m .bytes) (m .table)
   unfolding afterLoad
   kept-load x e d k g =
@@ -402,18 +413,19 @@ module _ (m : Memory) (a : ℕ) (f : Config) (t : Table) (D : ℕ) (ws : List Wi
   unfolding groupLoaded afterGroup plainAnswer isCrowded
   refused-group area d =
       let g = groupIn m area in
-      sym (read-same (λ (z : Group). z) (tooFew m) g (cond (group.isAccepted g (LoadSite a f t D ws)) (nextGroup g (LoadSite a f t D ws)) g)
+      sym (read-same (λ (z : Group). z) (groupTooShort m) g
+      (cond (group.groupAccepts g (LoadSite a f t D ws)) (nextGroup g (LoadSite a f t D ws)) g)
       g refl (skip _ _ _ _ (ap (λ (b : Bool). b && true) d) refl))
 
   pub no-number : {r : ℕ} → isNumber a ≡ false → r ≡ number NoSuchNode → LoadIs r (m .words) (m .bytes) (m .table)
-  unfolding loadAnswer
+  unfolding groupLoadAnswer
   no-number n k = kept-load NoSuchNode (skip _ _ _ _ n refl) refl k (λ area. refused-group area (ap isDone (skip _ _ _ _ n refl)))
 
-  pub no-room : {r : ℕ} → isNumber a ≡ true → tooFew m ≡ true → r ≡ number NoRoom → LoadIs r (m .words) (m .bytes) (m .table)
-  unfolding loadAnswer groupLoaded
+  pub no-room : {r : ℕ} → isNumber a ≡ true → groupTooShort m ≡ true → r ≡ number NoRoom → LoadIs r (m .words) (m .bytes) (m .table)
+  unfolding groupLoadAnswer groupLoaded
   no-room n h k = kept-load NoRoom (hit _ _ _ n ∙ hit _ _ _ h) refl k (λ area. sym (hit _ _ _ h))
 
-  module _ (n : isNumber a ≡ true) (h : tooFew m ≡ false) where
+  module _ (n : isNumber a ≡ true) (h : groupTooShort m ≡ false) where
     abbrev at : ℕ
     at = a - 1
 
@@ -423,8 +435,8 @@ module _ (m : Memory) (a : ℕ) (f : Config) (t : Table) (D : ℕ) (ws : List Wi
     low-number : at < 8
     low-number = let k = number-is a n in omega (arith, k .from, k .to)
 
-    answer-plain : loadAnswer m a f t D ws ≡ timedLoadAnswer f t D ws
-    unfolding loadAnswer
+    answer-plain : groupLoadAnswer m a f t D ws ≡ timedLoadAnswer f t D ws
+    unfolding groupLoadAnswer
     answer-plain = hit _ _ _ n ∙ skip _ _ _ _ h refl
 
     stored-plain : storedLoadAnswer (storeAt m at) f t D ws ≡ timedLoadAnswer f t D ws
@@ -469,11 +481,11 @@ module _ (m : Memory) (a : ℕ) (f : Config) (t : Table) (D : ℕ) (ws : List Wi
                         ap (λ (x : Memory). groupIn x area) o
                         ∙ group-then m long-memory at low-number S sized (freed a (placesIn (m .table))) long-places (firstEpoch D) area
                         ∙ (λ j. record {
-                          seats = set (tab 8 (seatIn m)) at (Taken (timed j));
+                          siteSlots = set (tab 8 (siteSlotIn m)) at (Taken (timed j));
                           places = freed a (placesIn (m .table));
                           area = area;
                         })
-                        ∙ sym (skip (tooFew m) _ _ _ h (ap (λ (g : Group). afterGroup g (LoadSite a f t D ws)) (group-is m area h)
+                        ∙ sym (skip (groupTooShort m) _ _ _ h (ap (λ (g : Group). afterGroup g (LoadSite a f t D ws)) (group-is m area h)
                         ∙ hit _ _ _ (ap (λ (y : Answer). isDone y && true) (hit (isNumber a) (timedLoadAnswer f t D ws) NoSuchNode n)
                         ∙ ap (λ (y : Bool). y && true) k))),
                   ),

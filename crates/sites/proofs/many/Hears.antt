@@ -15,7 +15,7 @@ use Rattle.node.specs.declared.Answer.the-variants.{NoSuchNode, WrongPhase, Not
 use Rattle.node.proofs.Answers.{done-is}
 use Rattle.wire.specs.Reads.{partOf}
 use Rattle.site.specs.Counts.{packets}
-use Rattle.site.specs.Members.{channelOf, memberAt, outside, isLive}
+use Rattle.site.specs.Members.{headerOf, memberAt, outside, isLive}
 use Rattle.site.specs.Answers.{isPacket, answerPart, siteHear}
 use Rattle.site.specs.Model.{Site}
 use Rattle.site.proofs.Accepted.{hear-accepted}
@@ -23,19 +23,19 @@ use Rattle.machine.specs.Layout.{Store, wordsSize, bytesSize, siteIn}
 use Rattle.machine.proofs.Whole.{enough}
 use Rattle.machine.specs.steps.After.{heardPart, heardStore, siteHeard, partAnswer, partStore}
 use Rattle.machine.proofs.steps.Asked.{heard-there}
-use Rattle.machine.specs.turn.Kept.{firstOf}
+use Rattle.machine.specs.turn.Kept.{firstRefusal}
 use Rattle.machine.proofs.turn.Laws.{first-done, first-refuses}
 use Rattle.group.specs.Places.{place}
 use Rattle.group.specs.Group.{Group, partAt}
 use Rattle.group.proofs.Parts.{own-part}
-use Rattle.sites.specs.many.Inner.{ownBy, hearAnswer, hearStore, heardBytes}
+use Rattle.sites.specs.many.Inner.{ownBy, groupHearAnswer, hearStore, heardBytes}
 
 -- the bytes that the code looks at
 pub part-there : (s : Store) (P A : List ℕ) (a p : ℕ) → 1 ≤ p → p ≤ packets (siteIn s .sent) → heardBytes (siteIn s .sent) P A a p
     ≡ partOf (ownBy P A a s) (p - 1)
 unfolding heardBytes
 part-there s P A a p h k =
-    let g : Group = record { seats = []; places = P; area = A } in
+    let g : Group = record { siteSlots = []; places = P; area = A } in
     let e : p - 1 + 1 ≡ p = omega arith in
     skip (ltb p 1 || ltb (packets (siteIn s .sent)) p) _ _ _ (both-false (ltb p 1) _ (le-ltb p 1 h) (le-ltb _ _ k))
     (ap (partAt g a) (sym e))
@@ -50,10 +50,10 @@ unfolding siteHeard
 heard-alike s x y j p f =
     ap (λ (r : Answer). cond (outside (s .config) j) NoSuchNode
     (cond (not (s .negotiates)) WrongPhase (cond (not (isLive (memberAt s j))) NotLive r)))
-    (past-test (not (isPacket (channelOf s) p)) NoSuchPacket (answerPart (channelOf s) (memberAt s j) x)
-    (answerPart (channelOf s) (memberAt s j) y) (λ d.
-    let e : isPacket (channelOf s) p ≡ true = not-false _ d in
-    ap (answerPart (channelOf s) (memberAt s j))
+    (past-test (not (isPacket (headerOf s) p)) NoSuchPacket (answerPart (headerOf s) (memberAt s j) x)
+    (answerPart (headerOf s) (memberAt s j) y) (λ d.
+    let e : isPacket (headerOf s) p ≡ true = not-false _ d in
+    ap (answerPart (headerOf s) (memberAt s j))
     (f (leb-true _ _ (and-left (leb 1 p) (leb p (packets (s .sent))) e))
     (leb-true _ _ (and-right (leb 1 p) (leb p (packets (s .sent))) e)))))
 
@@ -72,19 +72,19 @@ module _ (s : Store) (w : wordsSize ≤ length (s .words)) (b : bytesSize ≤ le
       ap (λ (x : List ℕ). heardPart s x j) (f (q .from) (q .to)))
 
   -- the windows are said to be right
-  pub heard-done : (o : Answer) → isDone o ≡ true → (partAnswer s part j p ≡ hearAnswer s own o j p)
+  pub heard-done : (o : Answer) → isDone o ≡ true → (partAnswer s part j p ≡ groupHearAnswer s own o j p)
       × (partStore s part j p ≡ hearStore s own o j p)
   unfolding hearStore
   heard-done o h =
-      let e : firstOf (siteHear (siteIn s) own j p) o ≡ siteHear (siteIn s) own j p =
-      ap (firstOf (siteHear (siteIn s) own j p)) (done-is o h) ∙ first-done (siteHear (siteIn s) own j p) in
+      let e : firstRefusal (siteHear (siteIn s) own j p) o ≡ siteHear (siteIn s) own j p =
+      ap (firstRefusal (siteHear (siteIn s) own j p)) (done-is o h) ∙ first-done (siteHear (siteIn s) own j p) in
       (heard-answer ∙ sym e, heard-store ∙ ap (λ (r : Answer). cond (isDone r) (heardStore s own j p) s) (sym e))
 
   -- or wrong: nothing is written
-  pub heard-refused : (o : Answer) → isDone o ≡ false → (firstOf (partAnswer s part j p) o ≡ hearAnswer s own o j p)
+  pub heard-refused : (o : Answer) → isDone o ≡ false → (firstRefusal (partAnswer s part j p) o ≡ groupHearAnswer s own o j p)
       × (s ≡ hearStore s own o j p)
   unfolding hearStore
   heard-refused o h = (
-    ap (λ (r : Answer). firstOf r o) heard-answer,
-    sym (skip (isDone (hearAnswer s own o j p)) (heardStore s own j p) s s (first-refuses (siteHear (siteIn s) own j p) o h) refl),
+    ap (λ (r : Answer). firstRefusal r o) heard-answer,
+    sym (skip (isDone (groupHearAnswer s own o j p)) (heardStore s own j p) s s (first-refuses (siteHear (siteIn s) own j p) o h) refl),
   )

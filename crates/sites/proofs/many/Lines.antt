@@ -12,15 +12,16 @@ use Rattle.node.specs.declared.Answer.the-variants.{OutOfRange, NoSuchNode, NoR
 use Rattle.node.specs.declared.Config.{Config}
 use Rattle.site.specs.declared.Event.{Event}
 use Rattle.windows.specs.declared.Window.{Window}
-use Rattle.tally.specs.Counting.{first}
+use Rattle.tally.specs.Counting.{firstTally}
 use Rattle.tally.specs.declared.Tally.{Tally}
 use Rattle.sites.specs.declared.Tallied.{Tallied}
 use Rattle.script.specs.declared.Parsed.{Parsed}
 use Rattle.script.specs.declared.Parsed.the-variants.{Malformed, Good}
 use Rattle.sites.specs.one.Calls.{tableFrom}
 use Rattle.group.specs.Group.{isNumber}
-use Rattle.sites.specs.many.Memory.{Memory, memory, Lent, lent, tooFew, groupIn}
-use Rattle.sites.specs.many.Calls.{rowsFit, rowsAnswer, afterRows, groupRows, tallyLoaded, rowsTold, lineAnswer, lineTold, afterLine}
+use Rattle.sites.specs.many.Memory.{Memory, memory, Lent, lent, groupTooShort, groupIn}
+use Rattle.sites.specs.many.Calls.{rowCountFits, rowsAnswer, afterRows, groupRows, tallyLoaded, rowsTold, groupLineAnswer}
+use Rattle.sites.specs.many.Calls.{groupLineTallied, afterLine}
 use Rattle.sites.specs.many.Calls.{areaAfterLine, reportAfterLine, groupAfterLine}
 use Rattle.sites.proofs.many.Groups.{EventIs, LoadIs}
 
@@ -32,7 +33,7 @@ module _ (m : Memory) (a : ℕ) (f : Config) (rows : List ℕ) (D : ℕ) (ws : L
       × ((b ≡ afterRows m a f rows D ws .bytes)
       × ((l ≡ afterRows m a f rows D ws .table) × ((area : List ℕ) → groupIn (memory w b l) area ≡ groupRows m area a f rows D ws))))
 
-  pub rows-load : rowsFit f rows ≡ true → {r : ℕ} {w b l : List ℕ} → LoadIs m a f (tableFrom rows) D ws r w b l → RowsIs r w b l
+  pub rows-load : rowCountFits f rows ≡ true → {r : ℕ} {w b l : List ℕ} → LoadIs m a f (tableFrom rows) D ws r w b l → RowsIs r w b l
   unfolding rowsAnswer afterRows groupRows
   rows-load h z =
       let q = sym (hit _ _ m h) in (
@@ -46,7 +47,7 @@ module _ (m : Memory) (a : ℕ) (f : Config) (rows : List ℕ) (D : ℕ) (ws : L
         ),
       )
 
-  rows-kept : rowsFit f rows ≡ false → (x : Answer) → cond (isNumber a) (cond (tooFew m) NoRoom OutOfRange) NoSuchNode ≡ x
+  rows-kept : rowCountFits f rows ≡ false → (x : Answer) → cond (isNumber a) (cond (groupTooShort m) NoRoom OutOfRange) NoSuchNode ≡ x
       → RowsIs (number x) (m .words) (m .bytes) (m .table)
   unfolding rowsAnswer afterRows groupRows
   rows-kept h x e =
@@ -58,28 +59,28 @@ module _ (m : Memory) (a : ℕ) (f : Config) (rows : List ℕ) (D : ℕ) (ws : L
         ),
       )
 
-  pub rows-number : {r : ℕ} → rowsFit f rows ≡ false → isNumber a ≡ false → r ≡ number NoSuchNode
+  pub rows-number : {r : ℕ} → rowCountFits f rows ≡ false → isNumber a ≡ false → r ≡ number NoSuchNode
       → RowsIs r (m .words) (m .bytes) (m .table)
   rows-number h n k = let z = rows-kept h NoSuchNode (skip _ _ _ _ n refl) in (k ∙ z .0, z .1)
 
-  pub rows-room : {r : ℕ} → rowsFit f rows ≡ false → isNumber a ≡ true → tooFew m ≡ true → r ≡ number NoRoom
+  pub rows-room : {r : ℕ} → rowCountFits f rows ≡ false → isNumber a ≡ true → groupTooShort m ≡ true → r ≡ number NoRoom
       → RowsIs r (m .words) (m .bytes) (m .table)
   rows-room h n k q = let z = rows-kept h NoRoom (hit _ _ _ n ∙ hit _ _ _ k) in (q ∙ z .0, z .1)
 
-  pub rows-none : {r : ℕ} → rowsFit f rows ≡ false → isNumber a ≡ true → tooFew m ≡ false → r ≡ number OutOfRange
+  pub rows-none : {r : ℕ} → rowCountFits f rows ≡ false → isNumber a ≡ true → groupTooShort m ≡ false → r ≡ number OutOfRange
       → RowsIs r (m .words) (m .bytes) (m .table)
   rows-none h n k q = let z = rows-kept h OutOfRange (hit _ _ _ n ∙ skip _ _ _ _ k refl) in (q ∙ z .0, z .1)
 
   -- with the tally of the number
-  pub rows-told : (t : Tally) {r : ℕ} {y : Tally} → r ≡ number (rowsAnswer m a f rows D ws) → y ≡ cond (eqb r 0) first t
+  pub rows-told : (t : Tally) {r : ℕ} {y : Tally} → r ≡ number (rowsAnswer m a f rows D ws) → y ≡ cond (eqb r 0) firstTally t
       → record { code = r; tally = y } ≡ rowsTold m a f rows D ws t
   unfolding tallyLoaded
-  rows-told t {r} h k = λ i. record { code = h i; tally = (k ∙ ap (λ (n : ℕ). cond (eqb n 0) first t) h) i }
+  rows-told t {r} h k = λ i. record { code = h i; tally = (k ∙ ap (λ (n : ℕ). cond (eqb n 0) firstTally t) h) i }
 
 -- an event made of three numbers
 abbrev pub LineIs : Memory → List ℕ → ℕ → Lent → Parsed → Tallied → List ℕ → List ℕ → List ℕ → List ℕ → List ℕ → Type 0
 LineIs m area a v p r w b t y o =
-    (r ≡ lineTold m area a v p)
+    (r ≡ groupLineTallied m area a v p)
     × ((w ≡ afterLine m area a v p .words)
     × ((b ≡ afterLine m area a v p .bytes)
     × ((t ≡ afterLine m area a v p .table)
@@ -93,7 +94,7 @@ pub line-with : (m : Memory) (area : List ℕ) (a : ℕ) (t : Tally) (out : List
 line-with m area a t out p ws {r} {w} {b} {l} {y} {o} h z = subst (λ (vs : List Window). LineIs m area a (lent vs t out) p r w b l y o) h z
 
 pub no-line : (m : Memory) (area : List ℕ) (a : ℕ) (v : Lent) (p : Parsed) → Malformed ≡ p → {n : ℕ} → n
-    ≡ number (lineAnswer m area a v Malformed)
+    ≡ number (groupLineAnswer m area a v Malformed)
     → LineIs m area a v p (record { code = n; tally = v .tally }) (m .words) (m .bytes) (m .table) area (v .out)
 no-line m area a v p e {n} k =
     subst (λ (p : Parsed). LineIs m area a v p (record { code = n; tally = v .tally }) (m .words) (m .bytes) (m .table) area (v .out)) e

@@ -20,11 +20,11 @@ use Rattle.windows.specs.declared.Window.{Window}
 use Rattle.machine.specs.Layout.{Store, siteIn}
 use Rattle.machine.specs.hours.Hours.{timedLoadAnswer}
 use Rattle.machine.specs.declared.Day.{Day}
-use Rattle.tally.specs.Counting.{first}
+use Rattle.tally.specs.Counting.{firstTally}
 use Rattle.tally.specs.Ends.{talliedAnswer}
 use Rattle.tally.specs.declared.Tally.{Tally}
-use Rattle.machine.specs.turn.Kept.{firstOf, keptAnswer}
-use Rattle.machine.specs.turn.Stored.{tooFew as tooShort, stepAnswer}
+use Rattle.machine.specs.turn.Kept.{firstRefusal, keptAnswer}
+use Rattle.machine.specs.turn.Stored.{lentTooShort as tooShort, stepAnswer}
 use Rattle.machine.proofs.turn.Laws.{first-refuses}
 use Rattle.machine.proofs.turn.Seen.{same-seen}
 use Rattle.sites.specs.one.Calls.{tableFrom}
@@ -33,14 +33,16 @@ use Rattle.script.specs.declared.Parsed.the-variants.{Malformed, Good}
 use Rattle.group.specs.Group.{Group, isNumber}
 use Rattle.group.specs.Calls.{LoadSite, isCrowded, plainAnswer}
 use Rattle.group.specs.Steps.{afterGroup}
-use Rattle.sites.specs.many.Memory.{Memory, lent, tooFew, storeAt, dayAt, loadedAnswer, groupIn}
-use Rattle.sites.specs.many.Calls.{eventCall, ownIn, ownAnswer, eventAnswer, afterEvent, areaAfter, tallyAfter, reportAfter}
-use Rattle.sites.specs.many.Calls.{groupAfter, loadAnswer, afterLoad, groupLoaded, rowsFit, rowsAnswer, afterRows, groupRows}
-use Rattle.sites.specs.many.Calls.{tallyLoaded, rowsTold, lineAnswer, lineTold, afterLine, areaAfterLine, tallyAfterLine}
+use Rattle.sites.specs.many.Memory.{Memory, lent, groupTooShort, storeAt, dayAt, loadedAnswer, groupIn}
+use Rattle.sites.specs.many.Calls.{eventCall, ownAreaIn, siteStepAnswer, groupEventAnswer, afterEvent, groupAreaAfter}
+use Rattle.sites.specs.many.Calls.{groupTallyAfter, reportAfter}
+use Rattle.sites.specs.many.Calls.{groupAfter, groupLoadAnswer, afterLoad, groupLoaded, rowCountFits, rowsAnswer, afterRows}
+use Rattle.sites.specs.many.Calls.{groupRows}
+use Rattle.sites.specs.many.Calls.{tallyLoaded, rowsTold, groupLineAnswer, groupLineTallied, afterLine, areaAfterLine, tallyAfterLine}
 use Rattle.sites.specs.many.Calls.{reportAfterLine, groupAfterLine}
 
 -- what comes first refuses
-front-refuses : (a b : Answer) → isDone a ≡ false → firstOf a b ≡ a
+front-refuses : (a b : Answer) → isDone a ≡ false → firstRefusal a b ≡ a
 front-refuses a b h = skip _ _ _ _ h refl
 
 module _ (m : Memory) (area : List ℕ) (a : ℕ) (ws : List Window) (t : Tally) (out : List ℕ) where
@@ -60,49 +62,53 @@ module _ (m : Memory) (area : List ℕ) (a : ℕ) (ws : List Window) (t : Tally)
     -- the answer to an event with a list that breaks the rules
     abbrev bad : Answer
     bad = cond (ltb (length area) areaSize) NoRoom
-        (cond (tooShort s (ownIn m area a) out) NoRoom (firstOf (talliedAnswer (siteIn s) (ownIn m area a) t e) BadWindows))
+        (cond (tooShort s (ownAreaIn m area a) out) NoRoom (firstRefusal (talliedAnswer (siteIn s) (ownAreaIn m area a) t e) BadWindows))
 
-    bad-own : (vs : List Window) → listOk nodes (d .length) vs ≡ false → ownAnswer m area a (lent vs t out) e ≡ bad
-    unfolding ownAnswer stepAnswer keptAnswer
+    bad-own : (vs : List Window) → listOk nodes (d .length) vs ≡ false → siteStepAnswer m area a (lent vs t out) e ≡ bad
+    unfolding siteStepAnswer stepAnswer keptAnswer
     bad-own vs h =
         ap (λ (b : Bool). cond (ltb (length area) areaSize) NoRoom
-        (cond (tooShort s (ownIn m area a) out) NoRoom
-        (firstOf (talliedAnswer (siteIn s) (ownIn m area a) t e) (cond b Done BadWindows)))) h
+        (cond (tooShort s (ownAreaIn m area a) out) NoRoom
+        (firstRefusal (talliedAnswer (siteIn s) (ownAreaIn m area a) t e) (cond b Done BadWindows)))) h
 
     bad-done : isDone bad ≡ false
-    bad-done = go (ltb (length area) areaSize) (tooShort s (ownIn m area a) out)
+    bad-done = go (ltb (length area) areaSize) (tooShort s (ownAreaIn m area a) out)
       where
-        go : (b c : Bool) → isDone (cond b NoRoom (cond c NoRoom (firstOf (talliedAnswer (siteIn s) (ownIn m area a) t e) BadWindows)))
+        go : (b c : Bool) → isDone
+            (cond b NoRoom (cond c NoRoom (firstRefusal (talliedAnswer (siteIn s) (ownAreaIn m area a) t e) BadWindows)))
             ≡ false
         go true c = refl
         go false true = refl
-        go false false = first-refuses (talliedAnswer (siteIn s) (ownIn m area a) t e) BadWindows refl
+        go false false = first-refuses (talliedAnswer (siteIn s) (ownAreaIn m area a) t e) BadWindows refl
 
-    bad-answer : (vs : List Window) → listOk nodes (d .length) vs ≡ false → eventAnswer m area a (lent vs t out) e
-        ≡ firstOf (loadedAnswer m a) bad
-    unfolding eventAnswer
+    bad-answer : (vs : List Window) → listOk nodes (d .length) vs ≡ false → groupEventAnswer m area a (lent vs t out) e
+        ≡ firstRefusal (loadedAnswer m a) bad
+    unfolding groupEventAnswer
     bad-answer vs h =
-        ap (firstOf (loadedAnswer m a))
-        (ap (λ (z : Answer). firstOf z (cond (isCrowded (groupIn m area) (eventCall a vs e)) Crowded Done)) (bad-own vs h)
+        ap (firstRefusal (loadedAnswer m a))
+        (ap (λ (z : Answer). firstRefusal z (cond (isCrowded (groupIn m area) (eventCall a vs e)) Crowded Done)) (bad-own vs h)
         ∙ front-refuses bad (cond (isCrowded (groupIn m area) (eventCall a vs e)) Crowded Done) bad-done)
 
-    refuses : (vs : List Window) → listOk nodes (d .length) vs ≡ false → isDone (eventAnswer m area a (lent vs t out) e) ≡ false
+    refuses : (vs : List Window) → listOk nodes (d .length) vs ≡ false → isDone (groupEventAnswer m area a (lent vs t out) e) ≡ false
     refuses vs h = ap isDone (bad-answer vs h) ∙ first-refuses (loadedAnswer m a) bad bad-done
 
-    answer-seen : eventAnswer m area a (lent seen t out) e ≡ eventAnswer m area a (lent ws t out) e
-    answer-seen = same-seen nodes (d .length) ws (λ vs. eventAnswer m area a (lent vs t out) e) (firstOf (loadedAnswer m a) bad) bad-answer
+    answer-seen : groupEventAnswer m area a (lent seen t out) e ≡ groupEventAnswer m area a (lent ws t out) e
+    answer-seen = same-seen nodes (d .length) ws (λ vs. groupEventAnswer m area a (lent vs t out) e)
+        (firstRefusal (loadedAnswer m a) bad) bad-answer
 
     after-seen : afterEvent m area a (lent seen t out) e ≡ afterEvent m area a (lent ws t out) e
     unfolding afterEvent
     after-seen = same-seen nodes (d .length) ws (λ vs. afterEvent m area a (lent vs t out) e) m (λ vs h. skip _ _ _ _ (refuses vs h) refl)
 
-    area-seen : areaAfter m area a (lent seen t out) e ≡ areaAfter m area a (lent ws t out) e
-    unfolding areaAfter
-    area-seen = same-seen nodes (d .length) ws (λ vs. areaAfter m area a (lent vs t out) e) area (λ vs h. skip _ _ _ _ (refuses vs h) refl)
+    area-seen : groupAreaAfter m area a (lent seen t out) e ≡ groupAreaAfter m area a (lent ws t out) e
+    unfolding groupAreaAfter
+    area-seen = same-seen nodes (d .length) ws (λ vs. groupAreaAfter m area a (lent vs t out) e) area
+        (λ vs h. skip _ _ _ _ (refuses vs h) refl)
 
-    tally-seen : tallyAfter m area a (lent seen t out) e ≡ tallyAfter m area a (lent ws t out) e
-    unfolding tallyAfter
-    tally-seen = same-seen nodes (d .length) ws (λ vs. tallyAfter m area a (lent vs t out) e) t (λ vs h. skip _ _ _ _ (refuses vs h) refl)
+    tally-seen : groupTallyAfter m area a (lent seen t out) e ≡ groupTallyAfter m area a (lent ws t out) e
+    unfolding groupTallyAfter
+    tally-seen = same-seen nodes (d .length) ws (λ vs. groupTallyAfter m area a (lent vs t out) e) t
+        (λ vs h. skip _ _ _ _ (refuses vs h) refl)
 
     report-seen : reportAfter m area a (lent seen t out) e ≡ reportAfter m area a (lent ws t out) e
     unfolding reportAfter
@@ -115,7 +121,7 @@ module _ (m : Memory) (area : List ℕ) (a : ℕ) (ws : List Window) (t : Tally)
         (λ vs h. skip _ _ _ _ (refuses vs h) refl)
 
   -- made of three numbers
-  line-answer : (p : Parsed) → lineAnswer m area a (lent seen t out) p ≡ lineAnswer m area a (lent ws t out) p
+  line-answer : (p : Parsed) → groupLineAnswer m area a (lent seen t out) p ≡ groupLineAnswer m area a (lent ws t out) p
   line-answer Malformed = refl
   line-answer (Good e) = answer-seen e
 
@@ -123,7 +129,7 @@ module _ (m : Memory) (area : List ℕ) (a : ℕ) (ws : List Window) (t : Tally)
   line-tally Malformed = refl
   line-tally (Good e) = tally-seen e
 
-  pub told-same : (p : Parsed) → lineTold m area a (lent seen t out) p ≡ lineTold m area a (lent ws t out) p
+  pub told-same : (p : Parsed) → groupLineTallied m area a (lent seen t out) p ≡ groupLineTallied m area a (lent ws t out) p
   told-same p = λ i. record { code = number (line-answer p i); tally = line-tally p i }
 
   pub after-same : (p : Parsed) → afterLine m area a (lent seen t out) p ≡ afterLine m area a (lent ws t out) p
@@ -165,14 +171,14 @@ module _ (m : Memory) (a : ℕ) (f : Config) (rows : List ℕ) (D : ℕ) (ws : L
       go false k = k
 
   abbrev refused : Answer
-  refused = cond (isNumber a) (cond (tooFew m) NoRoom wrong) NoSuchNode
+  refused = cond (isNumber a) (cond (groupTooShort m) NoRoom wrong) NoSuchNode
 
-  wrong-answer : (vs : List Window) → listOk (f .nodes) D vs ≡ false → loadAnswer m a f (tableFrom rows) D vs ≡ refused
-  unfolding loadAnswer
-  wrong-answer vs h = ap (λ (z : Answer). cond (isNumber a) (cond (tooFew m) NoRoom z) NoSuchNode) (wrong-load vs h)
+  wrong-answer : (vs : List Window) → listOk (f .nodes) D vs ≡ false → groupLoadAnswer m a f (tableFrom rows) D vs ≡ refused
+  unfolding groupLoadAnswer
+  wrong-answer vs h = ap (λ (z : Answer). cond (isNumber a) (cond (groupTooShort m) NoRoom z) NoSuchNode) (wrong-load vs h)
 
   refused-done : isDone refused ≡ false
-  refused-done = go (isNumber a) (tooFew m)
+  refused-done = go (isNumber a) (groupTooShort m)
     where
       go : (b c : Bool) → isDone (cond b (cond c NoRoom wrong) NoSuchNode) ≡ false
       go true true = refl
@@ -183,23 +189,23 @@ module _ (m : Memory) (a : ℕ) (f : Config) (rows : List ℕ) (D : ℕ) (ws : L
   unfolding rowsAnswer
   rows-answer =
       same-seen (f .nodes) D ws (λ vs. rowsAnswer m a f rows D vs)
-      (cond (rowsFit f rows) refused (cond (isNumber a) (cond (tooFew m) NoRoom OutOfRange) NoSuchNode))
-      (λ vs h. ap (λ (z : Answer). cond (rowsFit f rows) z (cond (isNumber a) (cond (tooFew m) NoRoom OutOfRange) NoSuchNode))
+      (cond (rowCountFits f rows) refused (cond (isNumber a) (cond (groupTooShort m) NoRoom OutOfRange) NoSuchNode))
+      (λ vs h. ap (λ (z : Answer). cond (rowCountFits f rows) z (cond (isNumber a) (cond (groupTooShort m) NoRoom OutOfRange) NoSuchNode))
       (wrong-answer vs h))
 
   pub rows-same : afterRows m a f rows D copy ≡ afterRows m a f rows D ws
   unfolding afterRows afterLoad
   rows-same =
       same-seen (f .nodes) D ws (λ vs. afterRows m a f rows D vs) m
-      (λ vs h. read-same (λ (z : Memory). z) (rowsFit f rows) (afterLoad m a f (tableFrom rows) D vs) m m
+      (λ vs h. read-same (λ (z : Memory). z) (rowCountFits f rows) (afterLoad m a f (tableFrom rows) D vs) m m
       (skip _ _ _ _ (ap isDone (wrong-answer vs h) ∙ refused-done) refl) refl)
 
   pub group-loaded-same : (area : List ℕ) → groupRows m area a f rows D copy ≡ groupRows m area a f rows D ws
   unfolding groupRows groupLoaded afterGroup plainAnswer isCrowded
   group-loaded-same area =
       same-seen (f .nodes) D ws (λ vs. groupRows m area a f rows D vs) g
-      (λ vs h. read-same (λ (z : Group). z) (rowsFit f rows) (groupLoaded m area a f (tableFrom rows) D vs) g g
-      (read-same (λ (z : Group). z) (tooFew m) g (afterGroup g (LoadSite a f (tableFrom rows) D vs)) g refl
+      (λ vs h. read-same (λ (z : Group). z) (rowCountFits f rows) (groupLoaded m area a f (tableFrom rows) D vs) g g
+      (read-same (λ (z : Group). z) (groupTooShort m) g (afterGroup g (LoadSite a f (tableFrom rows) D vs)) g refl
       (skip _ _ _ _ (no-load vs h) refl)) refl)
     where
       g : Group
@@ -215,4 +221,4 @@ module _ (m : Memory) (a : ℕ) (f : Config) (rows : List ℕ) (D : ℕ) (ws : L
 
   pub rows-told-same : (t : Tally) → rowsTold m a f rows D copy t ≡ rowsTold m a f rows D ws t
   unfolding tallyLoaded
-  rows-told-same t = ap (λ (z : Answer). record { code = number z; tally = cond (isDone z) first t }) rows-answer
+  rows-told-same t = ap (λ (z : Answer). record { code = number z; tally = cond (isDone z) firstTally t }) rows-answer

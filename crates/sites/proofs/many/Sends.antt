@@ -20,10 +20,10 @@ use Rattle.site.specs.declared.Event.the-variants.{Send}
 use Rattle.machine.specs.Layout.{Store, wordsSize, bytesSize, siteIn}
 use Rattle.machine.proofs.Whole.{enough}
 use Rattle.machine.specs.steps.After.{sentStore, storageAnswer, storeAfter, areaInto}
-use Rattle.group.specs.Places.{entry, place, filled}
+use Rattle.group.specs.Places.{entry, place, placeFilled}
 use Rattle.group.specs.Group.{ownShare}
 use Rattle.group.specs.Calls.{crowded}
-use Rattle.sites.specs.many.Inner.{sendAnswer, sendShort, sendTaken, sendNumber, sendStore, sendPlaces, sendArea}
+use Rattle.sites.specs.many.Inner.{groupSendAnswer, sendShort, sendTaken, sendNumber, sendStore, sendPlaces, sendArea}
 
 -- the site's own answer
 pub send-answer : (s : Store) (l : List ℕ) (j : ℕ) → wordsSize ≤ length (s .words) → bytesSize ≤ length (s .bytes) → areaSize ≤ length l
@@ -44,26 +44,26 @@ module _ (s : Store) (o : Answer) (full : Bool) (j a : ℕ) (P A : List ℕ) whe
   unfolding sendStore sendPlaces sendArea
   kept e h = (e, (ap (λ (x : Store). x .bytes) (sym (skip _ _ _ _ h refl)), (sym (skip _ _ _ _ h refl), sym (skip _ _ _ _ h refl))))
 
-  pub send-refused : {r : ℕ} → isDone (sendAnswer s o j) ≡ false → r ≡ number (sendAnswer s o j) → Sent r (s .bytes) P A
+  pub send-refused : {r : ℕ} → isDone (groupSendAnswer s o j) ≡ false → r ≡ number (groupSendAnswer s o j) → Sent r (s .bytes) P A
   unfolding sendNumber sendTaken sendShort
   send-refused d e =
       kept (e ∙ sym (skip _ _ _ _ (ap (λ (b : Bool). b && (leb ownShare n && full)) d) refl))
       (ap (λ (b : Bool). b && not (sendShort s o full j)) d)
 
-  pub send-crowded : {r : ℕ} → isDone (sendAnswer s o j) ≡ true → (leb ownShare n && full) ≡ true → r ≡ crowded → Sent r (s .bytes) P A
+  pub send-crowded : {r : ℕ} → isDone (groupSendAnswer s o j) ≡ true → (leb ownShare n && full) ≡ true → r ≡ crowded → Sent r (s .bytes) P A
   unfolding sendNumber sendTaken sendShort
   send-crowded d h e =
       let k : sendShort s o full j ≡ true = both d h in
       kept (e ∙ sym (hit _ _ _ k)) (λ i. d i && not (k i))
 
-  pub send-done : {b l x : List ℕ} → isDone (sendAnswer s o j) ≡ true → (leb ownShare n && full) ≡ false → b ≡ sentStore s j .bytes → l
-      ≡ filled (entry a (n + 1)) P
+  pub send-done : {b l x : List ℕ} → isDone (groupSendAnswer s o j) ≡ true → (leb ownShare n && full) ≡ false → b ≡ sentStore s j .bytes → l
+      ≡ placeFilled (entry a (n + 1)) P
       → x ≡ stored A (place 0 P) (packetOf (memberAt (siteIn s) j .node)) → Sent 0 b l x
   unfolding sendNumber sendTaken sendShort sendStore sendPlaces sendArea
   send-done d h p q r =
       let k : sendShort s o full j ≡ false = both d h in
       let t : sendTaken s o full j ≡ true = λ i. d i && not (k i) in (
-        sym (skip _ _ _ _ k (ap number (done-is (sendAnswer s o j) d))),
+        sym (skip _ _ _ _ k (ap number (done-is (groupSendAnswer s o j) d))),
         (p ∙ ap (λ (x : Store). x .bytes) (sym (hit _ _ _ t)), (q ∙ sym (hit _ _ _ t), r ∙ sym (hit _ _ _ t))),
       )
 

@@ -18,15 +18,16 @@ use Rattle.windows.specs.declared.Window.{Window}
 use Rattle.machine.specs.Layout.{Store}
 use Rattle.machine.specs.hours.Hours.{timedLoadAnswer}
 use Rattle.machine.specs.declared.Day.{Day}
-use Rattle.tally.specs.Counting.{first}
+use Rattle.tally.specs.Counting.{firstTally}
 use Rattle.tally.specs.declared.Tally.{Tally}
 use Rattle.machine.specs.turn.Kept.{Kept}
 use Rattle.machine.proofs.turn.Seen.{same-seen, answer-seen, store-seen, report-seen, kept-seen}
 use Rattle.script.specs.declared.Parsed.{Parsed}
 use Rattle.script.specs.declared.Parsed.the-variants.{Malformed, Good}
-use Rattle.sites.specs.one.Memory.{lacks, dayIn, withDay, timedOf, keptOf}
+use Rattle.sites.specs.one.Memory.{memoryTooShort, dayIn, withDay, timedOf, keptOf}
 use Rattle.sites.specs.one.Calls.{tableFrom, loadingOf, afterLoad, timedAfterLoad, tallyAfterLoad, loadTallied, parsedAnswer}
-use Rattle.sites.specs.one.Calls.{parsedKept, parsedStore, parsedReport, eventAnswer, afterEvent, keptAfterEvent, reportAfterEvent}
+use Rattle.sites.specs.one.Calls.{parsedKept, parsedStore, parsedReport, siteEventAnswer, afterEvent, keptAfterEvent}
+use Rattle.sites.specs.one.Calls.{reportAfterEvent}
 use Rattle.sites.specs.one.Calls.{eventTallied}
 
 module _ (s : Store) (l : List ℕ) (ws : List Window) (t : Tally) (out : List ℕ) where
@@ -54,13 +55,13 @@ module _ (s : Store) (l : List ℕ) (ws : List Window) (t : Tally) (out : List �
   parsed-report (Good e) = report-seen s day l t out e ws
 
   module _ (p : Parsed) where
-    answers : eventAnswer s l seen t out p ≡ eventAnswer s l ws t out p
-    unfolding eventAnswer
-    answers = ap (cond (lacks s) NoRoom) (parsed-answer p)
+    answers : siteEventAnswer s l seen t out p ≡ siteEventAnswer s l ws t out p
+    unfolding siteEventAnswer
+    answers = ap (cond (memoryTooShort s) NoRoom) (parsed-answer p)
 
     pub kept-same : keptAfterEvent s l seen t out p ≡ keptAfterEvent s l ws t out p
     unfolding keptAfterEvent
-    kept-same = ap (cond (lacks s) (keptOf s l t)) (parsed-kept p)
+    kept-same = ap (cond (memoryTooShort s) (keptOf s l t)) (parsed-kept p)
 
     pub tallied-same : eventTallied s l seen t out p ≡ eventTallied s l ws t out p
     tallied-same = λ i. record { code = number (answers i); tally = kept-same i .tally }
@@ -71,7 +72,7 @@ module _ (s : Store) (l : List ℕ) (ws : List Window) (t : Tally) (out : List �
 
     pub report-same : reportAfterEvent s l seen t out p ≡ reportAfterEvent s l ws t out p
     unfolding reportAfterEvent
-    report-same = ap (cond (lacks s) out) (parsed-report p)
+    report-same = ap (cond (memoryTooShort s) out) (parsed-report p)
 
 module _ (s : Store) (f : Config) (rows : List ℕ) (D : ℕ) (ws : List Window) where
   abbrev copy : List Window
@@ -82,15 +83,15 @@ module _ (s : Store) (f : Config) (rows : List ℕ) (D : ℕ) (ws : List Window)
   plain = loadAnswer f (tableFrom rows)
 
   abbrev bad : Answer
-  bad = cond (lacks s) NoRoom (cond (eqb (length rows) (3 * f .nodes)) (cond (isDone plain) BadWindows plain) OutOfRange)
+  bad = cond (memoryTooShort s) NoRoom (cond (eqb (length rows) (3 * f .nodes)) (cond (isDone plain) BadWindows plain) OutOfRange)
 
   bad-load : (vs : List Window) → listOk (f .nodes) D vs ≡ false → loadingOf s f rows D vs ≡ bad
   unfolding loadingOf timedLoadAnswer
-  bad-load vs h = ap (λ (b : Bool). cond (lacks s) NoRoom
+  bad-load vs h = ap (λ (b : Bool). cond (memoryTooShort s) NoRoom
       (cond (eqb (length rows) (3 * f .nodes)) (cond (isDone plain) (cond b Done BadWindows) plain) OutOfRange)) h
 
   bad-refuses : (vs : List Window) → listOk (f .nodes) D vs ≡ false → isDone (loadingOf s f rows D vs) ≡ false
-  bad-refuses vs h = ap isDone (bad-load vs h) ∙ go (lacks s) (eqb (length rows) (3 * f .nodes)) (isDone plain) refl
+  bad-refuses vs h = ap isDone (bad-load vs h) ∙ go (memoryTooShort s) (eqb (length rows) (3 * f .nodes)) (isDone plain) refl
     where
       go : (a b c : Bool) → isDone plain ≡ c → isDone (cond a NoRoom (cond b (cond c BadWindows plain) OutOfRange)) ≡ false
       go true b c k = refl
@@ -111,4 +112,4 @@ module _ (s : Store) (f : Config) (rows : List ℕ) (D : ℕ) (ws : List Window)
 
   pub load-tallied-same : (t : Tally) → loadTallied s f rows D copy t ≡ loadTallied s f rows D ws t
   unfolding tallyAfterLoad
-  load-tallied-same t = ap (λ (a : Answer). record { code = number a; tally = cond (isDone a) first t }) loading-same
+  load-tallied-same t = ap (λ (a : Answer). record { code = number a; tally = cond (isDone a) firstTally t }) loading-same

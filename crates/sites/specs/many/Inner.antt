@@ -31,14 +31,14 @@ use Rattle.windows.specs.declared.Window.{Window}
 use Rattle.machine.specs.hours.Hours.{Timed, firstEpoch}
 use Rattle.machine.specs.hours.Stored.{timedIn, storedLoadAnswer, timedLoadedStore}
 use Rattle.machine.specs.declared.Day.{Day}
-use Rattle.machine.specs.turn.Kept.{Kept, firstOf}
+use Rattle.machine.specs.turn.Kept.{Kept, firstRefusal}
 use Rattle.machine.specs.turn.Stored.{stepAnswer, stepStore, stepReport, stepKept}
-use Rattle.machine.specs.declared.Stepped.{Stepped}
-use Rattle.group.specs.Places.{entry, place, filled, freed}
+use Rattle.machine.specs.declared.StepResult.{StepResult}
+use Rattle.group.specs.Places.{entry, place, placeFilled, freed}
 use Rattle.group.specs.Group.{Group, ownShare, commonShare, beyond, ownArea}
 use Rattle.group.specs.Calls.{isSend, crowded}
 use Rattle.group.specs.Steps.{nextPlaces, nextBytes}
-use Rattle.sites.specs.many.Memory.{Memory, memory, Lent, storeAt, dayAt, seatIn, placesIn, storeWords, storeBytes, tableWith}
+use Rattle.sites.specs.many.Memory.{Memory, memory, Lent, storeAt, dayAt, siteSlotIn, placesIn, storeWords, storeBytes, tableWith}
 
 -- what kind an event is, its node, and the packet that it hears
 abbrev pub isHear : Event → Bool
@@ -51,125 +51,126 @@ isHear (Want j d) = false
 isHear (Crash j) = false
 isHear (Restart j flags) = false
 
-abbrev pub nodeOf : Event → ℕ
-nodeOf (Send j) = j
-nodeOf (Hear j p) = j
-nodeOf Close = 0
-nodeOf (Take j i) = 0
-nodeOf End = 0
-nodeOf (Want j d) = 0
-nodeOf (Crash j) = 0
-nodeOf (Restart j flags) = 0
+abbrev pub eventNode : Event → ℕ
+eventNode (Send j) = j
+eventNode (Hear j p) = j
+eventNode Close = 0
+eventNode (Take j i) = 0
+eventNode End = 0
+eventNode (Want j d) = 0
+eventNode (Crash j) = 0
+eventNode (Restart j flags) = 0
 
-abbrev pub packetIn : Event → ℕ
-packetIn (Send j) = 0
-packetIn (Hear j p) = p
-packetIn Close = 0
-packetIn (Take j i) = 0
-packetIn End = 0
-packetIn (Want j d) = 0
-packetIn (Crash j) = 0
-packetIn (Restart j flags) = 0
+abbrev pub eventPacket : Event → ℕ
+eventPacket (Send j) = 0
+eventPacket (Hear j p) = p
+eventPacket Close = 0
+eventPacket (Take j i) = 0
+eventPacket End = 0
+eventPacket (Want j d) = 0
+eventPacket (Crash j) = 0
+eventPacket (Restart j flags) = 0
 
 -- a site by itself: its storage and day, its number, the places and the area
-pub record Lone : Type 0 where
+pub record OneSite : Type 0 where
   pub store : Store
   pub day : Day
   pub number : ℕ
   pub places : List ℕ
   pub area : List ℕ
 
-abbrev pub lone : Store → Day → ℕ → List ℕ → List ℕ → Lone
-lone s d a places area = record { store = s; day = d; number = a; places = places; area = area }
+abbrev pub oneSite : Store → Day → ℕ → List ℕ → List ℕ → OneSite
+oneSite s d a places area = record { store = s; day = d; number = a; places = places; area = area }
 
 -- a group of which only the places and the area are looked at
-abbrev pub around : Lone → Group
-around x = record { seats = []; places = x .places; area = x .area }
+abbrev pub around : OneSite → Group
+around x = record { siteSlots = []; places = x .places; area = x .area }
 
-abbrev pub timedOf : Lone → Timed
+abbrev pub timedOf : OneSite → Timed
 timedOf x = timedIn (x .store) (x .day)
 
-abbrev pub countOf : Lone → ℕ
-countOf x = packets (siteIn (x .store) .sent)
+abbrev pub sentCount : OneSite → ℕ
+sentCount x = packets (siteIn (x .store) .sent)
 
 -- the area as the site would have it by itself
 abbrev pub ownBy : List ℕ → List ℕ → ℕ → Store → List ℕ
-ownBy places area a s = ownArea (record { seats = []; places = places; area = area }) a (packets (siteIn s .sent))
+ownBy places area a s = ownArea (record { siteSlots = []; places = places; area = area }) a (packets (siteIn s .sent))
 
-abbrev pub ownOf : Lone → List ℕ
-ownOf x = ownBy (x .places) (x .area) (x .number) (x .store)
+abbrev pub ownAreaOf : OneSite → List ℕ
+ownAreaOf x = ownBy (x .places) (x .area) (x .number) (x .store)
 
 -- what the machine answers and leaves of the site with an area of its own
-abbrev pub keptBy : Lone → Lent → Event → Kept
-keptBy x v e = stepKept (x .store) (x .day) (ownOf x) (v .windows) (v .tally) (v .out) e
+abbrev pub keptBy : OneSite → Lent → Event → Kept
+keptBy x v e = stepKept (x .store) (x .day) (ownAreaOf x) (v .windows) (v .tally) (v .out) e
 
 -- the answer but for 17, and whether it is 17: full is whether the common places are taken
-unfoldable pub plainBy : Lone → Lent → Event → Answer
-plainBy x v e = cond (ltb (length (x .area)) areaSize) NoRoom (stepAnswer (x .store) (x .day) (ownOf x) (v .windows) (v .tally) (v .out) e)
+unfoldable pub plainBy : OneSite → Lent → Event → Answer
+plainBy x v e = cond (ltb (length (x .area)) areaSize) NoRoom
+    (stepAnswer (x .store) (x .day) (ownAreaOf x) (v .windows) (v .tally) (v .out) e)
 
-unfoldable pub shortBy : Lone → Bool → Lent → Event → Bool
-shortBy x full v e = isSend e && (isDone (plainBy x v e) && (leb ownShare (countOf x) && full))
+unfoldable pub shortBy : OneSite → Bool → Lent → Event → Bool
+shortBy x full v e = isSend e && (isDone (plainBy x v e) && (leb ownShare (sentCount x) && full))
 
-unfoldable pub takenBy : Lone → Bool → Lent → Event → Bool
+unfoldable pub takenBy : OneSite → Bool → Lent → Event → Bool
 takenBy x full v e = isDone (plainBy x v e) && not (shortBy x full v e)
 
 -- what the call tells, and what storage, places, area and output are then
-unfoldable pub toldBy : Lone → Bool → Lent → Event → Stepped
-toldBy x full v e =
+unfoldable pub stepResultBy : OneSite → Bool → Lent → Event → StepResult
+stepResultBy x full v e =
     record {
       code = cond (shortBy x full v e) crowded (number (plainBy x v e));
       day = cond (takenBy x full v e) (keptBy x v e .timed .day) (x .day);
       tally = cond (takenBy x full v e) (keptBy x v e .tally) (v .tally);
     }
 
-unfoldable pub storeBy : Lone → Bool → Lent → Event → Store
-storeBy x full v e = cond (takenBy x full v e) (stepStore (x .store) (x .day) (ownOf x) (v .windows) (v .tally) (v .out) e) (x .store)
+unfoldable pub storeBy : OneSite → Bool → Lent → Event → Store
+storeBy x full v e = cond (takenBy x full v e) (stepStore (x .store) (x .day) (ownAreaOf x) (v .windows) (v .tally) (v .out) e) (x .store)
 
 -- the site that the storage stands for then
-unfoldable pub siteBy : Lone → Bool → Lent → Event → Site
+unfoldable pub siteBy : OneSite → Bool → Lent → Event → Site
 siteBy x full v e = cond (takenBy x full v e) (keptBy x v e .timed .site) (siteIn (x .store))
 
-unfoldable pub placesBy : Lone → Bool → Lent → Event → List ℕ
-placesBy x full v e = cond (takenBy x full v e) (nextPlaces (x .places) (x .number) (countOf x) e) (x .places)
+unfoldable pub placesBy : OneSite → Bool → Lent → Event → List ℕ
+placesBy x full v e = cond (takenBy x full v e) (nextPlaces (x .places) (x .number) (sentCount x) e) (x .places)
 
-unfoldable pub areaBy : Lone → Bool → Lent → Event → List ℕ
+unfoldable pub areaBy : OneSite → Bool → Lent → Event → List ℕ
 areaBy x full v e = cond (takenBy x full v e) (nextBytes (around x) (timedOf x) e) (x .area)
 
-unfoldable pub reportBy : Lone → Bool → Lent → Event → List ℕ
+unfoldable pub reportBy : OneSite → Bool → Lent → Event → List ℕ
 reportBy x full v e =
-    cond (takenBy x full v e) (stepReport (x .store) (x .day) (ownOf x) (v .windows) (v .tally) (v .out) e) (v .out)
+    cond (takenBy x full v e) (stepReport (x .store) (x .day) (ownAreaOf x) (v .windows) (v .tally) (v .out) e) (v .out)
 
 -- what is said of a list of windows
-abbrev pub listed : Store → Day → List Window → Answer
-listed s d ws = cond (listOk (siteIn s .config .nodes) (d .length) ws) Done BadWindows
+abbrev pub listAnswer : Store → Day → List Window → Answer
+listAnswer s d ws = cond (listOk (siteIn s .config .nodes) (d .length) ws) Done BadWindows
 
 -- a send, and a hear; o is what is said of the windows
-abbrev pub sendAnswer : Store → Answer → ℕ → Answer
-sendAnswer s o j = firstOf (siteSend (siteIn s) j) o
+abbrev pub groupSendAnswer : Store → Answer → ℕ → Answer
+groupSendAnswer s o j = firstRefusal (siteSend (siteIn s) j) o
 
 unfoldable pub sendShort : Store → Answer → Bool → ℕ → Bool
-sendShort s o full j = isDone (sendAnswer s o j) && (leb ownShare (packets (siteIn s .sent)) && full)
+sendShort s o full j = isDone (groupSendAnswer s o j) && (leb ownShare (packets (siteIn s .sent)) && full)
 
 unfoldable pub sendTaken : Store → Answer → Bool → ℕ → Bool
-sendTaken s o full j = isDone (sendAnswer s o j) && not (sendShort s o full j)
+sendTaken s o full j = isDone (groupSendAnswer s o j) && not (sendShort s o full j)
 
 unfoldable pub sendNumber : Store → Answer → Bool → ℕ → ℕ
-sendNumber s o full j = cond (sendShort s o full j) crowded (number (sendAnswer s o j))
+sendNumber s o full j = cond (sendShort s o full j) crowded (number (groupSendAnswer s o j))
 
 unfoldable pub sendStore : Store → Answer → Bool → ℕ → Store
 sendStore s o full j = cond (sendTaken s o full j) (sentStore s j) s
 
 unfoldable pub sendPlaces : Store → Answer → Bool → ℕ → ℕ → List ℕ → List ℕ
-sendPlaces s o full j a places = cond (sendTaken s o full j) (filled (entry a (packets (siteIn s .sent) + 1)) places) places
+sendPlaces s o full j a places = cond (sendTaken s o full j) (placeFilled (entry a (packets (siteIn s .sent) + 1)) places) places
 
 unfoldable pub sendArea : Store → Answer → Bool → ℕ → List ℕ → List ℕ → List ℕ
 sendArea s o full j places area = cond (sendTaken s o full j) (stored area (place 0 places) (packetOf (memberAt (siteIn s) j .node))) area
 
-abbrev pub hearAnswer : Store → List ℕ → Answer → ℕ → ℕ → Answer
-hearAnswer s own o j p = firstOf (siteHear (siteIn s) own j p) o
+abbrev pub groupHearAnswer : Store → List ℕ → Answer → ℕ → ℕ → Answer
+groupHearAnswer s own o j p = firstRefusal (siteHear (siteIn s) own j p) o
 
 unfoldable pub hearStore : Store → List ℕ → Answer → ℕ → ℕ → Store
-hearStore s own o j p = cond (isDone (hearAnswer s own o j p)) (heardStore s own j p) s
+hearStore s own o j p = cond (isDone (groupHearAnswer s own o j p)) (heardStore s own j p) s
 
 -- the bytes of packet p of number a, by the counts of its site; zeros for a number of no packet
 unfoldable pub heardBytes : List ℕ → List ℕ → List ℕ → ℕ → ℕ → List ℕ
@@ -178,21 +179,22 @@ heardBytes sent places area a p =
 
 -- the common places that are taken, and whether a send looks for one and finds none
 unfoldable pub commonIn : Memory → ℕ
-commonIn m = total (map beyond (tab 8 (seatIn m)))
+commonIn m = total (map beyond (tab 8 (siteSlotIn m)))
 
-abbrev pub isFull : Memory → Event → Bool
-isFull m e = isSend e && leb commonShare (commonIn m)
+abbrev pub commonFull : Memory → Event → Bool
+commonFull m e = isSend e && leb commonShare (commonIn m)
 
 -- the site at index i of a group's memory, by itself
-abbrev pub loneIn : Memory → List ℕ → ℕ → ℕ → Lone
-loneIn m area i a = lone (storeAt m i) (dayAt (m .table) i) a (placesIn (m .table)) area
+abbrev pub loneIn : Memory → List ℕ → ℕ → ℕ → OneSite
+loneIn m area i a = oneSite (storeAt m i) (dayAt (m .table) i) a (placesIn (m .table)) area
 
 -- the memory after an event of that site, and after a load at that index
 unfoldable pub memoryBy : Memory → List ℕ → ℕ → ℕ → Lent → Event → Memory
 memoryBy m area i a v e =
     let x = loneIn m area i a in
-    let s = storeBy x (isFull m e) v e in
-    memory (storeWords m i s) (storeBytes m i s) (tableWith (m .table) (placesBy x (isFull m e) v e) i (toldBy x (isFull m e) v e .day))
+    let s = storeBy x (commonFull m e) v e in
+    memory (storeWords m i s) (storeBytes m i s)
+    (tableWith (m .table) (placesBy x (commonFull m e) v e) i (stepResultBy x (commonFull m e) v e .day))
 
 unfoldable pub loadedBy : Memory → ℕ → ℕ → Config → Table → ℕ → List Window → Memory
 loadedBy m i a f t D ws =

@@ -18,7 +18,7 @@ use Rattle.machine.specs.declared.Day.{Day}
 use Rattle.windows.specs.declared.Window.{Window}
 use Rattle.tally.specs.declared.Tally.{Tally}
 use Rattle.group.specs.Places.{topPlaces}
-use Rattle.group.specs.Group.{Seat, Empty, Taken, Group, vacant, isNumber}
+use Rattle.group.specs.Group.{SiteSlot, Empty, Taken, Group, vacant, isNumber}
 
 -- the lent memory of a group beside its packet area
 pub record Memory : Type 0 where
@@ -41,33 +41,33 @@ lent ws t out = record { windows = ws; tally = t; out = out }
 abbrev pub tableSize : ℕ
 tableSize = 280
 
-abbrev pub tooFew : Memory → Bool
-tooFew m = ltb (length (m .words)) (8 * wordsSize) || (ltb (length (m .bytes)) (8 * bytesSize) || ltb (length (m .table)) tableSize)
+abbrev pub groupTooShort : Memory → Bool
+groupTooShort m = ltb (length (m .words)) (8 * wordsSize) || (ltb (length (m .bytes)) (8 * bytesSize) || ltb (length (m .table)) tableSize)
 
 -- the storage of the site at index i
 abbrev pub storeAt : Memory → ℕ → Store
 storeAt m i = store (span (m .words) (wordsSize * i) wordsSize) (span (m .bytes) (bytesSize * i) bytesSize)
 
 -- where the three words of that site stand, and what they say
-abbrev pub seatAt : ℕ → ℕ
-seatAt i = topPlaces + 3 * i
+abbrev pub siteSlotAt : ℕ → ℕ
+siteSlotAt i = topPlaces + 3 * i
 
 abbrev pub isTaken : List ℕ → ℕ → Bool
-isTaken t i = eqb (getD t (seatAt i) 0) 1
+isTaken t i = eqb (getD t (siteSlotAt i) 0) 1
 
 abbrev pub dayAt : List ℕ → ℕ → Day
-dayAt t i = record { length = getD t (seatAt i + 1) 0; epoch = getD t (seatAt i + 2) 0 }
+dayAt t i = record { length = getD t (siteSlotAt i + 1) 0; epoch = getD t (siteSlotAt i + 2) 0 }
 
-unfoldable pub seatIn : Memory → ℕ → Seat
-seatIn m i = cond (isTaken (m .table) i) (Taken (timedIn (storeAt m i) (dayAt (m .table) i))) Empty
+unfoldable pub siteSlotIn : Memory → ℕ → SiteSlot
+siteSlotIn m i = cond (isTaken (m .table) i) (Taken (timedIn (storeAt m i) (dayAt (m .table) i))) Empty
 
 -- a number at which a site is loaded
 unfoldable pub isLoaded : Memory → ℕ → Bool
-isLoaded m a = isNumber a && (not (tooFew m) && isTaken (m .table) (a - 1))
+isLoaded m a = isNumber a && (not (groupTooShort m) && isTaken (m .table) (a - 1))
 
 -- what is said of a number: 15 for memory that is too short, 3 where no site is loaded
 unfoldable pub loadedAnswer : Memory → ℕ → Answer
-loadedAnswer m a = cond (isLoaded m a) Done (cond (isNumber a && tooFew m) NoRoom NoSuchNode)
+loadedAnswer m a = cond (isLoaded m a) Done (cond (isNumber a && groupTooShort m) NoRoom NoSuchNode)
 
 -- the entries of the places
 abbrev pub placesIn : List ℕ → List ℕ
@@ -75,7 +75,8 @@ placesIn t = take topPlaces t
 
 -- the group
 unfoldable pub groupIn : Memory → List ℕ → Group
-groupIn m area = cond (tooFew m) (vacant area) (record { seats = tab 8 (seatIn m); places = placesIn (m .table); area = area })
+groupIn m area = cond (groupTooShort m) (vacant area)
+    (record { siteSlots = tab 8 (siteSlotIn m); places = placesIn (m .table); area = area })
 
 -- other storage for the site at index i, and no other word or byte changed
 abbrev pub storeWords : Memory → ℕ → Store → List ℕ
@@ -85,9 +86,9 @@ abbrev pub storeBytes : Memory → ℕ → Store → List ℕ
 storeBytes m i s = written (m .bytes) (bytesSize * i) (s .bytes)
 
 -- the site at index i is loaded and has this day, and no other word changed
-abbrev pub seated : List ℕ → ℕ → Day → List ℕ
-seated t i d = set (set (set t (seatAt i) 1) (seatAt i + 1) (d .length)) (seatAt i + 2) (d .epoch)
+abbrev pub siteSlotTaken : List ℕ → ℕ → Day → List ℕ
+siteSlotTaken t i d = set (set (set t (siteSlotAt i) 1) (siteSlotAt i + 1) (d .length)) (siteSlotAt i + 2) (d .epoch)
 
 -- other entries of the places, with that
 abbrev pub tableWith : List ℕ → List ℕ → ℕ → Day → List ℕ
-tableWith t places i d = seated (written t 0 places) i d
+tableWith t places i d = siteSlotTaken (written t 0 places) i d

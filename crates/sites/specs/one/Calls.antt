@@ -25,13 +25,13 @@ use Rattle.machine.specs.Layout.{Store, tooShort, configIn}
 use Rattle.machine.specs.Loading.{memberRead}
 use Rattle.machine.specs.hours.Hours.{Timed, firstEpoch, timedLoadAnswer, loadedTimed}
 use Rattle.machine.specs.hours.Stored.{timedLoadedStore}
-use Rattle.tally.specs.Counting.{first}
+use Rattle.tally.specs.Counting.{firstTally}
 use Rattle.tally.specs.declared.Tally.{Tally}
 use Rattle.machine.specs.turn.Kept.{Kept}
-use Rattle.machine.specs.turn.Stored.{tooFew, stepAnswer, stepStore, stepReport, stepKept}
+use Rattle.machine.specs.turn.Stored.{lentTooShort, stepAnswer, stepStore, stepReport, stepKept}
 use Rattle.script.specs.declared.Parsed.{Parsed}
 use Rattle.script.specs.declared.Parsed.the-variants.{Malformed, Good}
-use Rattle.sites.specs.one.Memory.{lacks, dayIn, withDay, timedOf, keptOf}
+use Rattle.sites.specs.one.Memory.{memoryTooShort, dayIn, withDay, timedOf, keptOf}
 use Rattle.sites.specs.declared.Tallied.{Tallied}
 
 -- the figures of a load
@@ -51,7 +51,7 @@ tableFrom rows = record { rows = tab 32 (rowFrom rows) }
 
 -- a load: 15; 2 for figures out of range, for rows that are not three words for each node, and for a row out of range; 16
 unfoldable pub loadingOf : Store → Config → List ℕ → ℕ → List Window → Answer
-loadingOf s f rows D ws = cond (lacks s) NoRoom
+loadingOf s f rows D ws = cond (memoryTooShort s) NoRoom
     (cond (eqb (length rows) (3 * f .nodes)) (timedLoadAnswer f (tableFrom rows) D ws) OutOfRange)
 
 -- an accepted load writes the site, with the demands of the first epoch, and its day
@@ -64,18 +64,18 @@ timedAfterLoad s f rows D ws = cond (isDone (loadingOf s f rows D ws)) (loadedTi
 
 -- an accepted load sets the tally anew, whatever it held
 unfoldable pub tallyAfterLoad : Store → Config → List ℕ → ℕ → List Window → Tally → Tally
-tallyAfterLoad s f rows D ws t = cond (isDone (loadingOf s f rows D ws)) first t
+tallyAfterLoad s f rows D ws t = cond (isDone (loadingOf s f rows D ws)) firstTally t
 
 abbrev pub loadTallied : Store → Config → List ℕ → ℕ → List Window → Tally → Tallied
 loadTallied s f rows D ws t = record { code = number (loadingOf s f rows D ws); tally = tallyAfterLoad s f rows D ws t }
 
 -- an event, made of three numbers as a script's line has them: 15, 2 for numbers that make none, and then as the machine answers
 abbrev pub parsedAnswer : Store → List ℕ → List Window → Tally → List ℕ → Parsed → Answer
-parsedAnswer s area ws t out Malformed = cond (tooFew s area out) NoRoom OutOfRange
+parsedAnswer s area ws t out Malformed = cond (lentTooShort s area out) NoRoom OutOfRange
 parsedAnswer s area ws t out (Good e) = stepAnswer s (dayIn (s .words)) area ws t out e
 
-unfoldable pub eventAnswer : Store → List ℕ → List Window → Tally → List ℕ → Parsed → Answer
-eventAnswer s area ws t out p = cond (lacks s) NoRoom (parsedAnswer s area ws t out p)
+unfoldable pub siteEventAnswer : Store → List ℕ → List Window → Tally → List ℕ → Parsed → Answer
+siteEventAnswer s area ws t out p = cond (memoryTooShort s) NoRoom (parsedAnswer s area ws t out p)
 
 -- what memory, area and tally stand for then
 abbrev pub parsedKept : Store → List ℕ → List Window → Tally → List ℕ → Parsed → Kept
@@ -83,7 +83,7 @@ parsedKept s area ws t out Malformed = keptOf s area t
 parsedKept s area ws t out (Good e) = stepKept s (dayIn (s .words)) area ws t out e
 
 unfoldable pub keptAfterEvent : Store → List ℕ → List Window → Tally → List ℕ → Parsed → Kept
-keptAfterEvent s area ws t out p = cond (lacks s) (keptOf s area t) (parsedKept s area ws t out p)
+keptAfterEvent s area ws t out p = cond (memoryTooShort s) (keptOf s area t) (parsedKept s area ws t out p)
 
 -- an accepted event writes the storage, as the machine does, and the day
 abbrev pub parsedStore : Store → List ℕ → List Window → Tally → List ℕ → Parsed → Store
@@ -92,7 +92,7 @@ parsedStore s area ws t out (Good e) =
     withDay (stepStore s (dayIn (s .words)) area ws t out e) (stepKept s (dayIn (s .words)) area ws t out e .timed .day)
 
 unfoldable pub afterEvent : Store → List ℕ → List Window → Tally → List ℕ → Parsed → Store
-afterEvent s area ws t out p = cond (isDone (eventAnswer s area ws t out p)) (parsedStore s area ws t out p) s
+afterEvent s area ws t out p = cond (isDone (siteEventAnswer s area ws t out p)) (parsedStore s area ws t out p) s
 
 -- the output for a report
 abbrev pub parsedReport : Store → List ℕ → List Window → Tally → List ℕ → Parsed → List ℕ
@@ -100,10 +100,11 @@ parsedReport s area ws t out Malformed = out
 parsedReport s area ws t out (Good e) = stepReport s (dayIn (s .words)) area ws t out e
 
 unfoldable pub reportAfterEvent : Store → List ℕ → List Window → Tally → List ℕ → Parsed → List ℕ
-reportAfterEvent s area ws t out p = cond (lacks s) out (parsedReport s area ws t out p)
+reportAfterEvent s area ws t out p = cond (memoryTooShort s) out (parsedReport s area ws t out p)
 
 abbrev pub eventTallied : Store → List ℕ → List Window → Tally → List ℕ → Parsed → Tallied
-eventTallied s area ws t out p = record { code = number (eventAnswer s area ws t out p); tally = keptAfterEvent s area ws t out p .tally }
+eventTallied s area ws t out p =
+    record { code = number (siteEventAnswer s area ws t out p); tally = keptAfterEvent s area ws t out p .tally }
 
 -- what a listing shows of a live node: state, version, flags, request and owners
 unfoldable pub liveBytes : Node → List ℕ
@@ -130,7 +131,7 @@ outNode s j out = cond (isDone (showing s j out)) (written out 0 (nodeBytes (mem
 
 -- of a site in memory, which has its day too
 unfoldable pub showingOf : Store → ℕ → List ℕ → Answer
-showingOf s j out = cond (lacks s) NoRoom (showing s j out)
+showingOf s j out = cond (memoryTooShort s) NoRoom (showing s j out)
 
 unfoldable pub outNodeOf : Store → ℕ → List ℕ → List ℕ
-outNodeOf s j out = cond (lacks s) out (outNode s j out)
+outNodeOf s j out = cond (memoryTooShort s) out (outNode s j out)

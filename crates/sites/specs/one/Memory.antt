@@ -23,8 +23,8 @@ atEpoch = wordsSize + 1
 abbrev pub memorySize : ℕ
 memorySize = wordsSize + 2
 
-abbrev pub lacks : Store → Bool
-lacks s = ltb (length (s .words)) memorySize || ltb (length (s .bytes)) bytesSize
+abbrev pub memoryTooShort : Store → Bool
+memoryTooShort s = ltb (length (s .words)) memorySize || ltb (length (s .bytes)) bytesSize
 
 abbrev pub dayIn : List ℕ → Day
 dayIn w = record { length = getD w atDay 0; epoch = getD w atEpoch 0 }

@@ -3,13 +3,13 @@ use Prim.Native.Nat.{ℕ, _≤_, _<_, _-_, _+_}
 use native.Mathlib.Omega.{arith}
 use lib.ListN.{length, getD, drop}
 use borrow.Author.Needs.{needs}
-use Rattle.why.specs.Refused.{count}
+use Rattle.why.specs.Refused.{byteCount}
 use Rattle.why.proofs.Count.{count-end, count-front, small}
 use Rattle.why.proofs.count_of.Statement.{statement}
 use Rattle.why.proofs.count_of.Tie as tie
 
 abbrev Inv-loop : tie.InvT-loop
-Inv-loop s c n₀ i₀ n i = (i ≤ length s) × (n ≤ i) × (count c s ≡ n + count c (drop i s))
+Inv-loop s c n₀ i₀ n i = (i ≤ length s) × (n ≤ i) × (byteCount c s ≡ n + byteCount c (drop i s))
 
 abbrev μ-loop : tie.MeasureT-loop
 μ-loop s c n₀ i₀ n i = length s - i

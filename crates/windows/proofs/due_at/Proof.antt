@@ -39,8 +39,8 @@ loop-holds c = (
 window-in-requires : tie.Need-window-in-requires Inv-loop μ-loop
 window-in-requires c κs = omega arith
 
-met-requires : tie.Need-met-requires Inv-loop μ-loop
-met-requires c κs = search needs
+due-after-requires : tie.Need-due-after-requires Inv-loop μ-loop
+due-after-requires c κs = search needs
 
 add-i : tie.Need-add-i Inv-loop μ-loop
 add-i c = omega arith
@@ -57,9 +57,9 @@ loop-again c =
       omega arith,
       m .inv .1,
       m .inv .2,
-      ap (λ (x : Due). x .none) (c .met .ensures)
+      ap (λ (x : Due). x .none) (c .due-after .ensures)
           ∙ all-more _ _ _ _ (m .inv .3) (ap (λ (x : Window). not (eqb (x .node) (a .node))) w),
-      iter-more _ _ _ _ _ (m .inv .4) (ap (λ (x : Due). x .demand) (c .met .ensures)
+      iter-more _ _ _ _ _ (m .inv .4) (ap (λ (x : Due). x .demand) (c .due-after .ensures)
           ∙ ap (λ (x : Window). cond (isDue (a .node) (a .epoch) x) (x .demand) (m .s .demand)) w),
     )
 
@@ -83,5 +83,5 @@ returns-2 c =
     ∙ c .if1 .left)))
 
 pub due-at-spec : {M : Type 1} → statement M
-due-at-spec = tie.close (tie.spec Inv-loop μ-loop count-requires loop-holds window-in-requires met-requires add-i loop-less loop-again
+due-at-spec = tie.close (tie.spec Inv-loop μ-loop count-requires loop-holds window-in-requires due-after-requires add-i loop-less loop-again
     returns returns-2)

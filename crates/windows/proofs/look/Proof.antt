@@ -153,8 +153,8 @@ Begun 𝓤 H A mem run = tripleOf 𝓤 H A g₁.signature (g₁.spec 𝓤 H A me
 abbrev Turn : {M : Type 1} (𝓤 : URA M) (H : Heap 𝓤) (A : Atoms 𝓤) (mem : Memory → SProp 𝓤) (run : Routine → Fun 𝓤) → Contract 𝓤
 Turn 𝓤 H A mem run = tripleOf 𝓤 H A g₂.signature (g₂.spec 𝓤 H A mem run)
 
-abbrev Told : {M : Type 1} (𝓤 : URA M) (H : Heap 𝓤) (A : Atoms 𝓤) (mem : Memory → SProp 𝓤) (run : Routine → Fun 𝓤) → Contract 𝓤
-Told 𝓤 H A mem run = tripleOf 𝓤 H A g₃.signature (g₃.spec 𝓤 H A mem run)
+abbrev NodeReport : {M : Type 1} (𝓤 : URA M) (H : Heap 𝓤) (A : Atoms 𝓤) (mem : Memory → SProp 𝓤) (run : Routine → Fun 𝓤) → Contract 𝓤
+NodeReport 𝓤 H A mem run = tripleOf 𝓤 H A g₃.signature (g₃.spec 𝓤 H A mem run)
 
 module _ {M : Type 1} (𝓤 : URA M) (H : Heap 𝓤) (A : Atoms 𝓤) (W : Given 𝓤 H A) (mem : Memory → SProp 𝓤) (run : Routine → Fun 𝓤)
     (n-nodes : ℕ) (fits-nodes : n-nodes < 2 ^ 32) (n-day : ℕ) (fits-day : n-day < 2 ^ 32) (n-node : ℕ) (fits-node : n-node < 2 ^ 32)
@@ -211,10 +211,10 @@ module _ {M : Type 1} (𝓤 : URA M) (H : Heap 𝓤) (A : Atoms 𝓤) (W : Given
   abbrev args-told : Seen → Seen × (ℕ × Unit {0})
   args-told s = (s, (n-demand, tt))
 
-  abbrev to-told : Seen → Told 𝓤 H A mem run .Ghost
+  abbrev to-told : Seen → NodeReport 𝓤 H A mem run .Ghost
   to-told s = ((tt, tt, tt, args-told s, (seen s, (vint w32 n-demand ∷ [], tt))), tt)
 
-  goes-told : (s : Seen) → Is S.the-row s (seen s) → ent 𝓤 (emp 𝓤) (Told 𝓤 H A mem run .pre (to-told s))
+  goes-told : (s : Seen) → Is S.the-row s (seen s) → ent 𝓤 (emp 𝓤) (NodeReport 𝓤 H A mem run .pre (to-told s))
   goes-told s is =
       qed W [] ∵ nothing ! $ owned ! u32 (Is u32) (uint-makes 𝓤 H A W w32) n-demand _ (refl, fits-demand) $ fjoin ! $
       owned ! S.the-row (Is S.the-row) (LL.makes S.the-type S′.the-plain 𝓤 H A) s _ is $ fjoin ! $ nothing ! $ join ! $ nothing ! $ move !
@@ -273,7 +273,7 @@ module _ {M : Type 1} (𝓤 : URA M) (H : Heap 𝓤) (A : Atoms 𝓤) (W : Given
     Near = Nearer n-nodes n-day ys n-node n-epoch n-demand
 
     module _ (𝓣 : Tables 𝓤 H) (known-turn : Triple 𝓤 (𝓣 .C #windows·turn) (Turn 𝓤 H A mem run))
-        (known-told : Triple 𝓤 (𝓣 .C #windows·told) (Told 𝓤 H A mem run)) (q′ : Share)
+        (known-told : Triple 𝓤 (𝓣 .C #windows·told) (NodeReport 𝓤 H A mem run)) (q′ : Share)
         (l₀ l₁ l₂ l₃ l₄ l₅ l₆ l₇ l₈ l₉ l₁₀ l₁₁ l₁₂ l₁₃ l₁₄ l₁₅ : ℕ) where
       abbrev En : Env 𝓤 H
       En = (L′.mir, l₀) ∷ (slice, l₁) ∷ (num, l₂) ∷ (num, l₃) ∷ (num, l₄) ∷ (num, l₅) ∷ (num, l₆) ∷ (S′.mir, l₇) ∷ (T′.mir, l₈) ∷
@@ -381,8 +381,8 @@ module _ {M : Type 1} (𝓤 : URA M) (H : Heap 𝓤) (A : Atoms 𝓤) (W : Given
           (init ! 15 refl (tt, tt)) $
           rewrite ! 15 (λ (y : Bool). ‵ (fat fullShare tyBool l₁₁ 0 (vbool y))) over refl $ leaves-loop !
           (load ! (from ! (stop !)) (look ! 15 refl)) $ exec ! (𝓣 .C) (𝓣 .Λ) En mir.t-4 (atRet En Post) $
-          use0 W (raw (Told 𝓤 H A mem run .pre (to-told (t .s)))) (goes-told (t .s) (t .is)) $
-          calls-at ! (fmOf 𝓤 H (W .laws) 𝓣) (Told 𝓤 H A mem run) known-told (to-told (t .s))
+          use0 W (raw (NodeReport 𝓤 H A mem run .pre (to-told (t .s)))) (goes-told (t .s) (t .is)) $
+          calls-at ! (fmOf 𝓤 H (W .laws) 𝓣) (NodeReport 𝓤 H A mem run) known-told (to-told (t .s))
           (and-then ! (load ! (from ! (stop !)) (look ! 24 refl)) (and-then ! (load ! (from ! (stop !)) (look ! 26 refl)) (no-more !)))
           (λ u.
           use1 W (later (some (λ (r : Looked). (‵ ftrue ⊛ ‵ (L.the-row .own r (u ∷ []))) ⊛ raw
@@ -412,7 +412,7 @@ module _ {M : Type 1} (𝓤 : URA M) (H : Heap 𝓤) (A : Atoms 𝓤) (W : Given
       looped t = first ! $ blocks ! $ loops ! 𝓣 Near (Nearer-wf n-nodes n-day ys n-node n-epoch n-demand) At turns t
 
     walk : (𝓣 : Tables 𝓤 H) → Triple 𝓤 (𝓣 .C #windows·begun) (Begun 𝓤 H A mem run) → Triple 𝓤 (𝓣 .C #windows·turn) (Turn 𝓤 H A mem run)
-        → Triple 𝓤 (𝓣 .C #windows·told) (Told 𝓤 H A mem run)
+        → Triple 𝓤 (𝓣 .C #windows·told) (NodeReport 𝓤 H A mem run)
         → ent 𝓤 (onEntry 𝓤 H A f.signature (κ, tt) (q, tt) x at) (WpFn 𝓤 H (𝓣 .C) (𝓣 .Λ) code.function
         (s-ws ∷ vint w32 n-nodes ∷ vint w32 n-day ∷ vint w32 n-node ∷ vint w32 n-epoch ∷ vint w32 n-demand ∷ []) Post)
     walk 𝓣 known-begun known-turn known-told =
@@ -485,7 +485,7 @@ module _ {M : Type 1} (𝓤 : URA M) (H : Heap 𝓤) (A : Atoms 𝓤) (W : Given
 module _ {M : Type 1} (𝓤 : URA M) (H : Heap 𝓤) (A : Atoms 𝓤) (W : Given 𝓤 H A) (mem : Memory → SProp 𝓤) (run : Routine → Fun 𝓤)
     (𝓣 : Tables 𝓤 H)
     (known-begun : Triple 𝓤 (𝓣 .C #windows·begun) (Begun 𝓤 H A mem run)) (known-turn : Triple 𝓤 (𝓣 .C #windows·turn) (Turn 𝓤 H A mem run))
-    (known-told : Triple 𝓤 (𝓣 .C #windows·told) (Told 𝓤 H A mem run)) where
+    (known-told : Triple 𝓤 (𝓣 .C #windows·told) (NodeReport 𝓤 H A mem run)) where
   walks : Walks 𝓤 H A f.ended stayed (WpFn 𝓤 H (𝓣 .C) (𝓣 .Λ) code.function) (f.clauses 𝓤 H A mem run)
   walks = walked 𝓤 H A f.ended stayed (f.clauses 𝓤 H A mem run) (WpFn 𝓤 H (𝓣 .C) (𝓣 .Λ) code.function)
       (λ κs. (slice-vals, (uint-vals w32, (uint-vals w32, (uint-vals w32, (uint-vals w32, (uint-vals w32, tt)))))))
@@ -531,5 +531,5 @@ look-spec 𝓤 H 𝓜 𝓖 𝓡 =
     (cited 𝓤 H (Begun 𝓤 H (𝓖 .A) (𝓜 .mem) (𝓡 .run)) 𝓜 𝓡 code.env #windows·begun g₁-def.routine code.calls-windows·begun
     (g₁-thm.met 𝓤 H 𝓜 𝓖 𝓡))
     (cited 𝓤 H (Turn 𝓤 H (𝓖 .A) (𝓜 .mem) (𝓡 .run)) 𝓜 𝓡 code.env #windows·turn g₂-def.routine code.calls-windows·turn (g₂-thm.met 𝓤 H 𝓜 𝓖 𝓡))
-    (cited 𝓤 H (Told 𝓤 H (𝓖 .A) (𝓜 .mem) (𝓡 .run)) 𝓜 𝓡 code.env #windows·told g₃-def.routine code.calls-windows·told
+    (cited 𝓤 H (NodeReport 𝓤 H (𝓖 .A) (𝓜 .mem) (𝓡 .run)) 𝓜 𝓡 code.env #windows·told g₃-def.routine code.calls-windows·told
     (g₃-thm.met 𝓤 H 𝓜 𝓖 𝓡)))

@@ -12,9 +12,9 @@ use Rattle.windows.specs.declared.Seen.{Seen}
 use Rattle.windows.proofs.turn.Statement.{statement}
 use Rattle.windows.proofs.turn.Tie as tie
 
-met : (N D j e : ℕ) (s : Seen) (v w : Window) → s .k < s .i → (b : Bool) → b ≡ overlap v w
+due-after : (N D j e : ℕ) (s : Seen) (v w : Window) → s .k < s .i → (b : Bool) → b ≡ overlap v w
     → record { n = s .n; i = s .i; k = s .k + 1; due = s .due; ok = s .ok && not b; none = s .none } ≡ turnOf N D j e s v w
-met N D j e s v w l b t =
+due-after N D j e s v w l b t =
     ap (λ (x : Bool). record { n = s .n; i = s .i; k = s .k + 1; due = s .due; ok = s .ok && not x; none = s .none }) t
     ∙ sym (hit _ (meets s v w) _ (lt-ltb (s .k) (s .i) l))
 
@@ -39,7 +39,7 @@ returns : tie.Need-returns
 returns c =
     let d = c .before .before .before in
     let a = d .before .before .args in
-    met (a .nodes) (a .day) (a .node) (a .epoch) (a .s) (a .v) (a .w) (d .if1 .taken) _ (c .before .overlap .ensures)
+    due-after (a .nodes) (a .day) (a .node) (a .epoch) (a .s) (a .v) (a .w) (d .if1 .taken) _ (c .before .overlap .ensures)
 
 add-t13 : tie.Need-add-t13
 add-t13 c = search needs

@@ -18,7 +18,7 @@ use Rattle.lists.proofs.Laws.{fill-none, fill-more, length-tab}
 use Rattle.lists.proofs.Chain.{put}
 use Rattle.masks.specs.Slots.{Masks}
 use Rattle.masks.specs.Slots.{hasSlot, fromWords, lowOf, highOf, ownersIn}
-use Rattle.masks.specs.Bytes.{masksSize, masksBytes, masksIn, firstOf}
+use Rattle.masks.specs.Bytes.{masksSize, masksBytes, masksIn, firstWords}
 use Rattle.masks.proofs.Rows.{length-masks}
 use Rattle.masks.specs.Inner.{taken}
 use Rattle.masks.proofs.Taken.{taken-none, taken-turn}
@@ -334,7 +334,7 @@ returns c =
     let s = a .s .now in
     let old = ownersIn (masksIn s (a .at)) in
     let u = c6 .before .before .before .before .before .before .before .before .before .before .rows-used in
-    let m : Masks = fromWords (firstOf (u .result) (l .low)) (firstOf (u .result) (l .high)) (l .held) in
+    let m : Masks = fromWords (firstWords (u .result) (l .low)) (firstWords (u .result) (l .high)) (l .held) in
     let x = first-all (u .result) (l .low) (ap length (l .inv .3 .lows) ∙ length-tab 32 _) (l .inv .5) in
     let y = first-all (u .result) (l .high) (ap length (l .inv .3 .highs) ∙ length-tab 32 _) (l .inv .6) in
     let e : m ≡ fromWords (l .low) (l .high) (l .held) = λ i. fromWords (x i) (y i) (l .held) in

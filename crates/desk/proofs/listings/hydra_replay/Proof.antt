@@ -55,7 +55,7 @@ use Rattle.windows.proofs.Windows as S
 use Rattle.windows.proofs.Windows.Laws as S′
 use Rattle.desk.proofs.Replayed as E
 use Rattle.desk.proofs.Replayed.Laws as E′
-use Rattle.desk.specs.listings.Calls.{replayedOf, areaAfter, outAfter}
+use Rattle.desk.specs.listings.Calls.{replayedOf, areaAfterRun, outAfter}
 use Rattle.desk.proofs.listings.Seen.{call-seen}
 use Rattle.windows.proofs.copied as g₁
 use Rattle.windows.proofs.copied.Symbol as g₁-def
@@ -149,7 +149,7 @@ module _ {M : Type 1} (𝓤 : URA M) (H : Heap 𝓤) (A : Atoms 𝓤) (W : Given
 
   exits : (w : Windows) (r : Replayed) (zs-area : List ℕ) (zs-out : List ℕ) → w ≡ copyFrom noWindows 0 ys
       → (r ≡ replayedOf Refusals n-day (listOf w) xs-script xs-area xs-out h)
-      × (zs-area ≡ areaAfter Refusals n-day (listOf w) xs-script xs-area xs-out)
+      × (zs-area ≡ areaAfterRun Refusals n-day (listOf w) xs-script xs-area xs-out)
       × (zs-out ≡ outAfter Refusals n-day (listOf w) xs-script xs-area xs-out) → length zs-area ≡ length xs-area → length zs-out
       ≡ length xs-out → r .code < 2 ^ 32
       → ent 𝓤 (⋆ 𝓤 H A (‵ (fobs γ3 (u32 .coded .code (r .length))) ∷ ‵ (fbor κ3 (Body (mem u32) b3 o3 γ3)) ∷ ‵ (flft κ0 q0) ∷ ‵ (flft κ1 q1)
@@ -283,11 +283,11 @@ module _ {M : Type 1} (𝓤 : URA M) (H : Heap 𝓤) (A : Atoms 𝓤) (W : Given
         (some (λ (zs : Unit {0} × (List ℕ × (List ℕ × (Unit {0} × (Unit {0} × (Unit {0} × Unit {0})))))). ‵
         (lasts g₂.ended (κ0, (κ1, (κ2, tt))) (args-inner w) zs) ⊛ raw
         (fact 𝓤 ((r ≡ replayedOf Refusals n-day (listOf w) xs-script xs-area xs-out h)
-        × (zs .1 .0 ≡ areaAfter Refusals n-day (listOf w) xs-script xs-area xs-out)
+        × (zs .1 .0 ≡ areaAfterRun Refusals n-day (listOf w) xs-script xs-area xs-out)
         × (zs .1 .1 .0 ≡ outAfter Refusals n-day (listOf w) xs-script xs-area xs-out))))) (id⊢ 𝓤 _) $ pick ! (λ zs.
         split ! $ move ! (1 ∷ []) $ heard !
         ((r ≡ replayedOf Refusals n-day (listOf w) xs-script xs-area xs-out h)
-        × (zs .1 .0 ≡ areaAfter Refusals n-day (listOf w) xs-script xs-area xs-out)
+        × (zs .1 .0 ≡ areaAfterRun Refusals n-day (listOf w) xs-script xs-area xs-out)
         × (zs .1 .1 .0 ≡ outAfter Refusals n-day (listOf w) xs-script xs-area xs-out))
         (λ e. fsplit ! $ drop ! $ fsplit ! $ fsplit ! $ move ! (1 ∷ [])
         $ feqL ! (λ l-area. move ! (1 ∷ []) $ fsplit ! $ fsplit ! $ move ! (1 ∷ []) $ feqL ! (λ l-out.

@@ -5,7 +5,8 @@ use lib.ListN.{length}
 use borrow.Author.Tests.{not-true, not-false}
 use Rattle.windows.specs.Copies.{windowsIn}
 use Rattle.machine.specs.Layout.{store, wordsSize, bytesSize}
-use Rattle.desk.proofs.listings.Parts.{zeros-long, not-loaded, loaded, begun-list, bad-put, bad-area, run-room, rest-room, rest-put, area-is}
+use Rattle.desk.proofs.listings.Parts.{zeros-long, not-loaded, loaded, begun-list, bad-put, bad-area, run-room, rest-room, rest-put}
+use Rattle.desk.proofs.listings.Parts.{area-is}
 use borrow.Author.Needs.{needs}
 use Rattle.desk.proofs.listings.print_run.Statement.{statement}
 use Rattle.desk.proofs.listings.print_run.Tie as tie

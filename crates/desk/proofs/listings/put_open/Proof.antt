@@ -1,7 +1,7 @@
 use mathlib.Core.Path.{ap}
 use Rattle.lists.proofs.Chain.{retry}
 use Rattle.node.specs.declared.Answer.the-variants.{OutOfRange}
-use Rattle.machine.specs.declared.Told.{Told}
+use Rattle.machine.specs.declared.NodeReport.{NodeReport}
 use Rattle.desk.specs.listings.Inner.{lineText}
 use borrow.Author.Needs.{needs}
 use Rattle.desk.proofs.listings.put_open.Statement.{statement}
@@ -19,7 +19,7 @@ same-length c = search needs
 returns : tie.Need-returns
 returns c =
     let a = c .before .before .before .before .before .before .args in
-    retry (ap (λ (t : Told). lineText (a .v) (a .n) OutOfRange t) (c .before .before .before .nothing .ensures))
+    retry (ap (λ (t : NodeReport). lineText (a .v) (a .n) OutOfRange t) (c .before .before .before .nothing .ensures))
     (c .before .before .put-line .ensures)
 
 pub put-open-spec : {M : Type 1} → statement M

@@ -8,10 +8,10 @@ use Rattle.lists.proofs.Chain.{Left, start, step, end, leftover, finish-by}
 use Rattle.windows.specs.Windows.{listOk}
 use Rattle.windows.specs.Copies.{windowsIn}
 use Rattle.machine.specs.Layout.{store, siteIn, wordsSize, bytesSize}
-use Rattle.machine.specs.hours.Calls.{TimedWorld}
+use Rattle.machine.specs.hours.Calls.{TimedState}
 use Rattle.script.proofs.lines.Lines.{whole}
 use Rattle.desk.specs.listings.Output.{eventsIn, runBy}
-use Rattle.desk.specs.listings.Inner.{worldIn, linesText}
+use Rattle.desk.specs.listings.Inner.{runStateIn, linesText}
 use Rattle.desk.proofs.listings.Laws.{lines-none, run-none, lines-open, run-open, next-list, next-lines, next-run}
 use borrow.Author.Needs.{needs}
 use Rattle.desk.proofs.listings.run.Statement.{statement}
@@ -22,10 +22,10 @@ use Rattle.desk.proofs.listings.run.Tie as tie
 abbrev Inv-loop : tie.InvT-loop
 Inv-loop script from first words₀ bytes₀ area₀ out₀ to w v day₀ n₀ at₀ pos₀ words bytes area out day n at pos =
     (at ≤ length script) × (n ≤ first + at) × (length words ≡ length words₀) × (length bytes ≡ length bytes₀) × (length area ≡ length area₀)
-    × (runBy (windowsIn w) (worldIn (store words bytes) day area) (eventsIn (split 10 (drop at script)))
-    ≡ runBy (windowsIn w) (worldIn (store words₀ bytes₀) day₀ area₀) (eventsIn (split 10 (drop from script))))
-    × Left out₀ to (linesText v (windowsIn w) (worldIn (store words₀ bytes₀) day₀ area₀) first (split 10 (drop from script))) out pos
-    (linesText v (windowsIn w) (worldIn (store words bytes) day area) n (split 10 (drop at script)))
+    × (runBy (windowsIn w) (runStateIn (store words bytes) day area) (eventsIn (split 10 (drop at script)))
+    ≡ runBy (windowsIn w) (runStateIn (store words₀ bytes₀) day₀ area₀) (eventsIn (split 10 (drop from script))))
+    × Left out₀ to (linesText v (windowsIn w) (runStateIn (store words₀ bytes₀) day₀ area₀) first (split 10 (drop from script))) out pos
+    (linesText v (windowsIn w) (runStateIn (store words bytes) day area) n (split 10 (drop at script)))
     × (listOk (siteIn (store words bytes) .config .nodes) (day .length) (windowsIn w) ≡ true)
 
 abbrev μ-loop : tie.MeasureT-loop
@@ -59,11 +59,11 @@ returns c =
     let l = c .before .before .before .loop in
     let h = sym (c .before .before .next-line .ensures) ∙ c .enum-told .given .1 in
     let a = c .before .before .before .before .before .before .before .before .before .before .args in
-    let w = worldIn (store (l .words) (l .bytes)) (l .day) (l .area) in
+    let w = runStateIn (store (l .words) (l .bytes)) (l .day) (l .area) in
     let e = sym (run-none _ _ h _ w) ∙ l .inv .5 in
     record {
-      site = ap (λ (x : TimedWorld). x .timed .site) e;
-      area = ap (λ (x : TimedWorld). x .area) e;
+      site = ap (λ (x : TimedState). x .timed .site) e;
+      area = ap (λ (x : TimedState). x .area) e;
       put = end (leftover (lines-none _ _ h (a .v) (windowsIn (a .w .now)) w (l .n)) (l .inv .6));
     }
 
@@ -90,13 +90,13 @@ returns-2 c =
     let c7 = c .before .before .before .before .before .before .before in
     let a = c7 .before .before .before .before .before .before .before .args in
     let l = c7 .loop in
-    let w = worldIn (store (l .words) (l .bytes)) (l .day) (l .area) in
+    let w = runStateIn (store (l .words) (l .bytes)) (l .day) (l .area) in
     let h = sym (c .before .before .before .before .before .before .next-line .ensures)
     ∙ c .before .before .before .before .enum-told2 .given .1 in
     let e = sym (run-open _ _ h _ w) ∙ l .inv .5 in
     record {
-      site = ap (λ (x : TimedWorld). x .timed .site) e;
-      area = ap (λ (x : TimedWorld). x .area) e;
+      site = ap (λ (x : TimedState). x .timed .site) e;
+      area = ap (λ (x : TimedState). x .area) e;
       put =
           finish-by _ (leftover (lines-open _ _ h (a .v) (windowsIn (a .w .now)) w (l .n)) (l .inv .6))
           (c .before .before .put-open .ensures);

@@ -5,21 +5,21 @@ use native.Mathlib.Omega.{arith}
 use borrow.Author.Needs.{needs}
 use lib.ListN.{length, take, length-take}
 use lib.Seq.{length-take-le}
-use Rattle.windows.specs.Copies.{windowsIn, wordsOf, listOf}
+use Rattle.windows.specs.Copies.{windowsIn, windowWords, listOf}
 use Rattle.windows.specs.declared.Window.{Window}
 use Rattle.windows.specs.declared.Windows.{Windows}
 use Rattle.windows.proofs.Copies.{taken-again}
-use Rattle.desk.specs.listings.Calls.{ranOf, outAfter, areaAfter}
+use Rattle.desk.specs.listings.Calls.{runResultOf, outAfter, areaAfterRun}
 use Rattle.desk.proofs.listings.Bound.{room-top}
 use Rattle.desk.proofs.listings.Parts.{run-done, run-refused}
 use Rattle.desk.proofs.listings.show_numbers.Statement.{statement}
 use Rattle.desk.proofs.listings.show_numbers.Tie as tie
 
 -- the words in use stand for the list
-used-list : (w : Windows) (n : ℕ) → n ≡ length (wordsOf w) → windowsIn (take n (w .list)) ≡ listOf w
+used-list : (w : Windows) (n : ℕ) → n ≡ length (windowWords w) → windowsIn (take n (w .list)) ≡ listOf w
 used-list w n e = ap windowsIn (ap (λ (m : ℕ). take m (w .list)) e ∙ taken-again (4 * w .count) (w .list))
 
-used-fits : (w : Windows) (n : ℕ) → n ≡ length (wordsOf w) → n ≤ length (w .list)
+used-fits : (w : Windows) (n : ℕ) → n ≡ length (windowWords w) → n ≤ length (w .list)
 used-fits w n e = omega (arith, e, length-take (4 * w .count) (w .list))
 
 used-requires : tie.Need-used-requires
@@ -58,11 +58,11 @@ returns c =
     let a = u .before .before .before .before .before .args in
     let z = used-list (a .w) (u .used .result) (u .used .ensures) in
     let o = c7 .show .ensures in
-    let e = o .0 ∙ ap (λ (ws : List Window). ranOf (a .v) (a .day) ws (a .script .now) (a .area .now) (a .out .now)) z in
+    let e = o .0 ∙ ap (λ (ws : List Window). runResultOf (a .v) (a .day) ws (a .script .now) (a .area .now) (a .out .now)) z in
     let q = run-done (a .v) (a .day) (listOf (a .w)) (a .script .now) (a .area .now) (a .out .now) (c7 .show .result) (a .before) e
     (sym (c .before .before .is-done .ensures) ∙ c .before .if1 .taken) in (
       (λ i. record { code = q .0 i; length = q .1 i }),
-      o .1 .1 .0 ∙ ap (λ (ws : List Window). areaAfter (a .v) (a .day) ws (a .script .now) (a .area .now) (a .out .now)) z,
+      o .1 .1 .0 ∙ ap (λ (ws : List Window). areaAfterRun (a .v) (a .day) ws (a .script .now) (a .area .now) (a .out .now)) z,
       o .1 .0 ∙ ap (λ (ws : List Window). outAfter (a .v) (a .day) ws (a .script .now) (a .area .now) (a .out .now)) z,
     )
 
@@ -82,11 +82,11 @@ returns-2 c =
     let a = u .before .before .before .before .before .args in
     let z = used-list (a .w) (u .used .result) (u .used .ensures) in
     let o = c7 .show .ensures in
-    let e = o .0 ∙ ap (λ (ws : List Window). ranOf (a .v) (a .day) ws (a .script .now) (a .area .now) (a .out .now)) z in
+    let e = o .0 ∙ ap (λ (ws : List Window). runResultOf (a .v) (a .day) ws (a .script .now) (a .area .now) (a .out .now)) z in
     let q = run-refused (a .v) (a .day) (listOf (a .w)) (a .script .now) (a .area .now) (a .out .now) (c7 .show .result) (a .before) e
     (sym (c .before .before .is-done .ensures) ∙ c .before .if1 .left) in (
       (λ i. record { code = (c .code .ensures ∙ q .0) i; length = q .1 i }),
-      o .1 .1 .0 ∙ ap (λ (ws : List Window). areaAfter (a .v) (a .day) ws (a .script .now) (a .area .now) (a .out .now)) z,
+      o .1 .1 .0 ∙ ap (λ (ws : List Window). areaAfterRun (a .v) (a .day) ws (a .script .now) (a .area .now) (a .out .now)) z,
       o .1 .0 ∙ ap (λ (ws : List Window). outAfter (a .v) (a .day) ws (a .script .now) (a .area .now) (a .out .now)) z,
     )
 

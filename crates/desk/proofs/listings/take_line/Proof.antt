@@ -6,7 +6,7 @@ use Rattle.machine.proofs.hours.Stored.{Long, as-timed}
 use Rattle.machine.proofs.hours.Known.{keeps, by-list}
 use Rattle.script.specs.declared.Parsed.{Parsed}
 use Rattle.desk.specs.listings.Output.{lineAfter}
-use Rattle.desk.specs.listings.Inner.{worldIn, lineTaken}
+use Rattle.desk.specs.listings.Inner.{runStateIn, lineTaken}
 use borrow.Author.Needs.{needs}
 use Rattle.desk.proofs.listings.take_line.Statement.{statement}
 use Rattle.desk.proofs.listings.take_line.Tie as tie
@@ -20,8 +20,8 @@ nothing-requires c κs = search needs
 enum-known-p : tie.Need-enum-known-p
 enum-known-p c = search needs
 
-event-told-requires : tie.Need-event-told-requires
-event-told-requires c κs = search needs
+event-report-requires : tie.Need-event-report-requires
+event-report-requires c κs = search needs
 
 step-tested-requires : tie.Need-step-tested-requires
 step-tested-requires c κs = search needs
@@ -30,7 +30,7 @@ returns : tie.Need-returns
 returns c =
     let a = c .before .before .before .before .before .before .before .args in
     let s = store (a .words .now) (a .bytes .now) in
-    let x = worldIn s (a .day) (a .area .now) in
+    let x = runStateIn s (a .day) (a .area .now) in
     let e = c .before .enum-told .given .1 in (
       (λ i. record { turned = record { answer = OutOfRange; day = a .day }; told = c .nothing .ensures i })
           ∙ sym (ap (lineTaken (a .v) (windowsIn (a .w .now)) s (a .day) (a .area .now)) e),
@@ -58,14 +58,14 @@ returns-2 c =
     let c21 = c15 .before .before .before .before .before .before in
     let a = c21 .args in
     let s = store (a .words .now) (a .bytes .now) in
-    let x = worldIn s (a .day) (a .area .now) in
+    let x = runStateIn s (a .day) (a .area .now) in
     let e = c15 .p .given .1 in
     let v = c15 .p .given .0 .0 in
     let m : Long s = (c21 .pre .0, c21 .pre .1) in
     let o = by-list s (a .day) (a .area .now) (windowsIn (a .w .now)) v (keeps s (a .day) (windowsIn (a .w .now)) v m (c21 .pre .2))
     (c6 .step-tested .ensures) in
     let t = as-timed s (a .day) (a .area .now) (windowsIn (a .w .now)) v m in (
-      (λ i. record { turned = (o .0 ∙ t .0) i; told = c10 .event-told .ensures i })
+      (λ i. record { turned = (o .0 ∙ t .0) i; told = c10 .event-report .ensures i })
           ∙ sym (ap (lineTaken (a .v) (windowsIn (a .w .now)) s (a .day) (a .area .now)) e),
       (
         o .1 .1 .1 .0 ∙ t .1 .0 ∙ sym (ap (λ (p : Parsed). lineAfter (windowsIn (a .w .now)) x p .timed .site) e),
@@ -80,7 +80,7 @@ take-line-spec =
     enum-told
     nothing-requires
     enum-known-p
-    event-told-requires
+    event-report-requires
     step-tested-requires
     returns
     same-length

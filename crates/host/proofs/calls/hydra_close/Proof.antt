@@ -35,7 +35,7 @@ use Rattle.area.specs.declared.AreaRead.{AreaRead}
 use Rattle.range.specs.Range.{inRange}
 use Rattle.area.proofs.Valid.{size-of, range-of}
 use Rattle.area.proofs.Canon.{lengths, round-trip}
-use Rattle.host.specs.Calls.{andThen, isNodeArea, roomOf, unlessRefused, output, closeRoom, groundSize, groundBytes, closedAnswer}
+use Rattle.host.specs.Calls.{andThen, isNodeArea, roomAnswer, unlessRefused, output, closeRoom, groundSize, groundBytes, closedAnswer}
 use Rattle.host.specs.Calls.{closeBytes, closingOf, afterClose, outClose, toldClose}
 use Rattle.host.proofs.Answers.{then-stands, no-node, is-node, core-is, refuses, steps, put-out}
 use Rattle.host.proofs.Stepped.{gone, told-is}
@@ -81,11 +81,12 @@ module _ (a out told : List ℕ) {o : AreaRead} (e : o ≡ areaRead a) (f : not 
 
   other-phase : (y : Answer) → y ≡ closeAnswer n → isDone y ≡ false → All (number y) a out told
   other-phase y g d = refused y
-      (g ∙ sym (then-stands (closeAnswer n) (andThen (roomOf groundSize told) (closeRoom (closedNode n) out)) (sym (ap isDone g) ∙ d))) d
+      (g ∙ sym (then-stands (closeAnswer n) (andThen (roomAnswer groundSize told) (closeRoom (closedNode n) out))
+      (sym (ap isDone g) ∙ d))) d
 
   module _ (done : closeAnswer n ≡ Done) where
-    rooms : x n ≡ andThen (roomOf groundSize told) (closeRoom (closedNode n) out)
-    rooms = ap (λ (y : Answer). andThen y (andThen (roomOf groundSize told) (closeRoom (closedNode n) out))) done
+    rooms : x n ≡ andThen (roomAnswer groundSize told) (closeRoom (closedNode n) out)
+    rooms = ap (λ (y : Answer). andThen y (andThen (roomAnswer groundSize told) (closeRoom (closedNode n) out))) done
 
     no-ground : length told < groundSize → All 15 a out told
     no-ground h = refused NoRoom
@@ -108,7 +109,7 @@ module _ (a out told : List ℕ) {o : AreaRead} (e : o ≡ areaRead a) (f : not 
       sent : {m l t : List ℕ} {j : Ground} → u ≡ true → m ≡ areaStepped (s .core) (s .change) (o .core) a
           → l ≡ output (closeRoom (bare (s .core)) out)
           (closeBytes (nodeOf (s .core) (pair (scheduleOf (ownersTo (masksIn m atSchedule) (s .core .setup .config .nodes))) free))) out
-          → j ≡ groundOf (bare (o .core)) → t ≡ output (roomOf groundSize told) (groundBytes j) told → All 0 m l t
+          → j ≡ groundOf (bare (o .core)) → t ≡ output (roomAnswer groundSize told) (groundBytes j) told → All 0 m l t
       sent {m} {j = j} l p q y w =
           let v = is-node a (λ (m : Node). closedAnswer m out told) e f in
           let c = closedNode n in
@@ -131,7 +132,7 @@ module _ (a out told : List ℕ) {o : AreaRead} (e : o ≡ areaRead a) (f : not 
           let r = steps a (λ (m : Node). closedAnswer m out told) e f c all z in
           let one = put-out a (λ (m : Node). closedAnswer m out told) e f (closeRoom (bare (s .core)) out)
           (λ (m : Node). closeBytes (closedNode m)) out (room ∙ sym all) sends refl q in
-          let two = put-out a (λ (m : Node). closedAnswer m out told) e f (roomOf groundSize told)
+          let two = put-out a (λ (m : Node). closedAnswer m out told) e f (roomAnswer groundSize told)
           (λ (m : Node). groundBytes (groundOf m)) told (hit _ _ _ (le-leb _ _ h) ∙ sym all) told-so refl w in
           (r .0, (r .1, (one .1, two .1)))
 

@@ -16,7 +16,7 @@ use Rattle.wire.specs.Layout.{scheduleBytes}
 use Rattle.area.specs.Area.{atSchedule, smallOf}
 use Rattle.area.proofs.Valid.{size-of, range-of}
 use Rattle.host.specs.Report.{reportSize, report}
-use Rattle.host.specs.Calls.{roomOf, readingOf, outRead}
+use Rattle.host.specs.Calls.{roomAnswer, readingOf, outRead}
 use Rattle.host.proofs.Answers.{no-node, is-node, core-is, put-out}
 use Rattle.host.proofs.Stepped.{told-is}
 use borrow.Author.Needs.{needs}
@@ -36,14 +36,15 @@ returns : tie.Need-returns
 unfolding readingOf outRead
 returns c =
     let d = c .before .before .before .before .before in
-    no-node (d .args .area .now) (λ (n : Node). roomOf reportSize (d .args .out .now)) (c .before .before .read .ensures)
+    no-node (d .args .area .now) (λ (n : Node). roomAnswer reportSize (d .args .out .now)) (c .before .before .read .ensures)
     (c .if1 .taken) _ _
 
 report-into-requires : tie.Need-report-into-requires
 report-into-requires c κs =
     let d = c .before .before .before .before .before .before .before in
     size-of (d .args .area .now)
-    (is-node (d .args .area .now) (λ (n : Node). roomOf reportSize (d .args .out .now)) (c .before .before .before .before .read .ensures)
+    (is-node (d .args .area .now) (λ (n : Node). roomAnswer reportSize (d .args .out .now))
+    (c .before .before .before .before .read .ensures)
     (c .before .before .if1 .left))
 
 code-requires : tie.Need-code-requires
@@ -60,10 +61,10 @@ returns-2 c =
     let l = d .args .out .now in
     let e = c .before .before .before .before .before .before .before .before .read .ensures in
     let f = c .before .before .before .before .before .before .if1 .left in
-    let k = core-is a (λ (n : Node). roomOf reportSize l) e f in
-    let h = told-is a (range-of a (is-node a (λ (n : Node). roomOf reportSize l) e f)) in
+    let k = core-is a (λ (n : Node). roomAnswer reportSize l) e f in
+    let h = told-is a (range-of a (is-node a (λ (n : Node). roomAnswer reportSize l) e f)) in
     let w = c .before .before .before .report-into .ensures in
-    put-out a (λ (n : Node). roomOf reportSize l) e f (roomOf reportSize l) report l refl
+    put-out a (λ (n : Node). roomAnswer reportSize l) e f (roomAnswer reportSize l) report l refl
     (ap (λ (x : Core). report (nodeOf x (pair (scheduleOf (ownersTo (masksIn a atSchedule) (x .setup .config .nodes))) free))) k
     ∙ ap (λ (s : Schedule). report (nodeOf (coreOf (decoded a)) (pair s free))) h ∙ report-so (decoded a))
     (c .code .ensures ∙ ap number (w .0)) (w .1)

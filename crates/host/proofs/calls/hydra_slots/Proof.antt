@@ -18,7 +18,7 @@ use Rattle.area.specs.Area.{atSchedule, decoded}
 use Rattle.area.specs.Steps.{areaRead}
 use Rattle.area.specs.declared.AreaRead.{AreaRead}
 use Rattle.area.proofs.Masked.{own-is}
-use Rattle.host.specs.Calls.{andThen, isNodeArea, roomOf, output, slotsSize, ownSlots, ownAnswer, slotsAnswer, outSlots}
+use Rattle.host.specs.Calls.{andThen, isNodeArea, roomAnswer, output, slotsSize, ownSlots, outputAnswer, slotsAnswer, outSlots}
 use Rattle.host.proofs.Answers.{then-stands, no-node, is-node, core-is, refuses, put-out}
 use Rattle.host.proofs.Slots.{numbered}
 use Rattle.host.proofs.calls.hydra_slots.Statement.{statement}
@@ -34,10 +34,10 @@ module _ (a out : List ℕ) {o : AreaRead} (e : o ≡ areaRead a) (f : not (o .o
   n = decoded a
 
   abbrev x : Node → Answer
-  x m = ownAnswer m out
+  x m = outputAnswer m out
 
   core-so : o .core ≡ coreOf n
-  core-so = core-is a (λ (m : Node). ownAnswer m out) e f
+  core-so = core-is a (λ (m : Node). outputAnswer m out) e f
 
   answer-so : {y : Answer} → y ≡ inNegotiation (o .core .phase) → y ≡ sendAnswer n
   answer-so g = g ∙ ap (λ (c : Core). inNegotiation (c .phase)) core-so ∙ sym (send-phase n)
@@ -48,14 +48,14 @@ module _ (a out : List ℕ) {o : AreaRead} (e : o ≡ areaRead a) (f : not (o .o
 
   other-phase : (y : Answer) → y ≡ sendAnswer n → isDone y ≡ false → All (number y) out
   other-phase y g d =
-      refuses a (λ (m : Node). ownAnswer m out) e f y
-      (g ∙ sym (then-stands (sendAnswer n) (roomOf slotsSize out) (sym (ap isDone g) ∙ d))) d _ _
+      refuses a (λ (m : Node). outputAnswer m out) e f y
+      (g ∙ sym (then-stands (sendAnswer n) (roomAnswer slotsSize out) (sym (ap isDone g) ∙ d))) d _ _
 
   -- what is read of the node's own row is what it owns
   own-so : {w : NodeSlots} {j : ℕ} → j ≡ o .core .setup .node → w ≡ ownRead a atSchedule j → numbers w ≡ ownSlots n
   unfolding ownSlots
   own-so g h =
-      let v = is-node a (λ (m : Node). ownAnswer m out) e f in
+      let v = is-node a (λ (m : Node). outputAnswer m out) e f in
       let k = numbered a v in
       ap numbers (h ∙ ap (ownRead a atSchedule) (g ∙ ap (λ (c : Core). c .setup .node) core-so) ∙ own-is a v (n .setup .node) (k .0) (k .1))
 
@@ -66,7 +66,7 @@ returns : tie.Need-returns
 unfolding slotsAnswer outSlots
 returns c =
     let d = c .before .before .before .before .before in
-    no-node (d .args .area .now) (λ (n : Node). ownAnswer n (d .args .out .now)) (c .before .before .read .ensures) (c .if1 .taken) _ _
+    no-node (d .args .area .now) (λ (n : Node). outputAnswer n (d .args .out .now)) (c .before .before .read .ensures) (c .if1 .taken) _ _
 
 negotiation-answer-requires : tie.Need-negotiation-answer-requires
 negotiation-answer-requires c κs = search needs
@@ -116,8 +116,8 @@ returns-3 c =
     let y = answer-so a l e f (c7 .before .before .negotiation-answer .ensures) in
     let done = done-is (sendAnswer (decoded a)) (sym (ap isDone y) ∙ sym (c7 .before .is-done .ensures) ∙ not-false _ (c7 .if2 .left)) in
     let w = c3 .own-into .ensures in
-    put-out a (λ (n : Node). ownAnswer n l) e f (roomOf slotsSize l) ownSlots l
-    (sym (ap (λ (q : Answer). andThen q (roomOf slotsSize l)) done)) (own-so a l e f refl (c3 .before .before .own .ensures))
+    put-out a (λ (n : Node). outputAnswer n l) e f (roomAnswer slotsSize l) ownSlots l
+    (sym (ap (λ (q : Answer). andThen q (roomAnswer slotsSize l)) done)) (own-so a l e f refl (c3 .before .before .own .ensures))
     (c .code2 .ensures ∙ ap number (w .0)) (w .1)
 
 pub hydra-slots-spec : {M : Type 1} → statement M

@@ -11,7 +11,7 @@ use Rattle.host.proofs.steps.begin_area.Statement.{statement}
 use Rattle.host.proofs.steps.begin_area.Tie as tie
 
 long : (c : tie.Start) → Lengths (bare (c .args .c))
-long c = record { schedule = ap length owners-free; known = search needs; counts = search needs; determined = ap length owners-free }
+long c = record { schedule = ap length owners-free; known = search needs; counters = search needs; determined = ap length owners-free }
 
 step-requires : tie.Need-step-requires
 step-requires c κs = search needs

@@ -6,7 +6,7 @@ use borrow.Author.Tests.{not-true, not-false}
 use Rattle.node.specs.Answers.{isDone}
 use Rattle.node.specs.declared.Answer.the-variants.{Done, NoRoom}
 use Rattle.wire.specs.Layout.{scheduleSize}
-use Rattle.host.specs.Calls.{roomOf}
+use Rattle.host.specs.Calls.{roomAnswer}
 use borrow.Author.Needs.{needs}
 use Rattle.host.proofs.steps.has_room.Statement.{statement}
 use Rattle.host.proofs.steps.has_room.Tie as tie
@@ -22,14 +22,14 @@ is-sending-requires c κs = search needs
 returns : tie.Need-returns
 returns c =
     let out = c .before .before .before .args .out .now in
-    sym (ap (λ (s : Bool). isDone (cond s (roomOf scheduleSize out) Done))
+    sym (ap (λ (s : Bool). isDone (cond s (roomAnswer scheduleSize out) Done))
     (sym (c .before .is-sending .ensures) ∙ not-true _ (c .if1 .taken)))
 
 returns-2 : tie.Need-returns-2
 returns-2 c =
     let out = c .before .before .before .args .out .now in
     told (leb scheduleSize (length out))
-    ∙ sym (ap (λ (s : Bool). isDone (cond s (roomOf scheduleSize out) Done))
+    ∙ sym (ap (λ (s : Bool). isDone (cond s (roomAnswer scheduleSize out) Done))
     (sym (c .before .is-sending .ensures) ∙ not-false _ (c .if1 .left)))
 
 pub has-room-spec : {M : Type 1} → statement M

@@ -9,7 +9,7 @@ use Rattle.words.proofs.Tests.{hit, skip}
 use Rattle.lists.specs.Bytes.{written}
 use Rattle.node.specs.declared.Answer.{Answer}
 use Rattle.node.specs.declared.Answer.the-variants.{Done, NoRoom}
-use Rattle.host.specs.Calls.{slotsSize, roomOf, output}
+use Rattle.host.specs.Calls.{slotsSize, roomAnswer, output}
 use Rattle.host.proofs.Answers.{refusal}
 use Rattle.host.proofs.steps.own_into.Statement.{statement}
 use Rattle.host.proofs.steps.own_into.Tie as tie
@@ -23,7 +23,7 @@ three (a ∷ b ∷ c ∷ l) x y z h = refl
 
 returns : tie.Need-returns
 returns c =
-    let r : roomOf slotsSize (c .before .args .out .now) ≡ NoRoom = skip _ _ _ _ (lt-leb _ _ (c .if1 .taken)) refl in
+    let r : roomAnswer slotsSize (c .before .args .out .now) ≡ NoRoom = skip _ _ _ _ (lt-leb _ _ (c .if1 .taken)) refl in
     (sym r, refusal NoRoom _ r refl _ _ .1)
 
 slice-write-out : tie.Need-slice-write-out
@@ -55,7 +55,7 @@ returns-2 c =
     let l = d .args .out .now in
     let own = d .args .own in
     let h : slotsSize ≤ length l = c .before .before .if1 .left in
-    let r : roomOf slotsSize l ≡ Done = hit _ _ _ (le-leb _ _ h) in (
+    let r : roomAnswer slotsSize l ≡ Done = hit _ _ _ (le-leb _ _ h) in (
       sym r,
       three l (own .low) (own .high) (own .count) h ∙ sym
           (ap (λ (x : Answer). output x (own .low ∷ own .high ∷ own .count ∷ []) l) r),

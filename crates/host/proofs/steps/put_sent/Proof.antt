@@ -21,7 +21,7 @@ use Rattle.node.specs.Model.{Versioned}
 use Rattle.node.proofs.Made.{sends-so}
 use Rattle.wire.specs.Layout.{scheduleSize, scheduleBytes}
 use Rattle.area.specs.Area.{atSchedule}
-use Rattle.host.specs.Calls.{roomOf, output, closeRoom, closeBytes}
+use Rattle.host.specs.Calls.{roomAnswer, output, closeRoom, closeBytes}
 use Rattle.host.proofs.Answers.{in-room}
 use borrow.Author.Needs.{needs}
 use Rattle.host.proofs.steps.put_sent.Statement.{statement}
@@ -30,7 +30,7 @@ use Rattle.host.proofs.steps.put_sent.Tie as tie
 module _ (n : Node) (out : List ℕ) where
   -- a node that doesn't send writes nothing
   silent : sending (n .phase) ≡ false → out ≡ output (closeRoom n out) (closeBytes n) out
-  silent f = sym (ap (λ (t : Bool). output (cond t (roomOf scheduleSize out) Done) (cond t (scheduleBytes (sentBy n)) []) out) f
+  silent f = sym (ap (λ (t : Bool). output (cond t (roomAnswer scheduleSize out) Done) (cond t (scheduleBytes (sentBy n)) []) out) f
       ∙ written-none out 0)
 
   -- one that sends writes version and schedule where there is room
@@ -39,7 +39,7 @@ module _ (n : Node) (out : List ℕ) where
   sends f k w =
       let t = leb scheduleSize (length out) in
       w ∙ ap (λ (v : Versioned). cond t (written out 0 (scheduleBytes v)) out) k ∙ in-room t (scheduleBytes (sentBy n)) out
-      ∙ sym (ap (λ (s : Bool). output (cond s (roomOf scheduleSize out) Done) (cond s (scheduleBytes (sentBy n)) []) out) f)
+      ∙ sym (ap (λ (s : Bool). output (cond s (roomAnswer scheduleSize out) Done) (cond s (scheduleBytes (sentBy n)) []) out) f)
 
 is-sending-requires : tie.Need-is-sending-requires
 is-sending-requires c κs = search needs

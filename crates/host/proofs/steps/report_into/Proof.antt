@@ -22,7 +22,7 @@ use Rattle.node.specs.Model.{Node}
 use Rattle.wire.specs.Layout.{scheduleSize, scheduleBytes}
 use Rattle.area.specs.Area.{atSchedule, smallOf}
 use Rattle.host.specs.Report.{reportSize, report}
-use Rattle.host.specs.Calls.{roomOf, output}
+use Rattle.host.specs.Calls.{roomAnswer, output}
 use Rattle.host.proofs.Answers.{refusal}
 use Rattle.host.proofs.Writes.{report-is}
 use mathlib.Core.Path.{_≡_, refl, sym, ap, _∙_}
@@ -38,9 +38,9 @@ reports : {s0 s1 s2 s3 flags place small : List ℕ} {i1 i2 i3 : ℕ} {v : Versi
     → v ≡ sentBy n → s0 ≡ cond (leb scheduleSize (length l)) (written l 0 (scheduleBytes v)) l
     → flags ≡ bytes32 (n .flags) → Tried s0 scheduleSize flags i1 s1 → place ≡ bytes32 (n .epoch .place) → Tried s1 88 place i2 s2
     → small ≡ smallOf n → Tried s2 92 small i3 s3
-    → (Done ≡ roomOf reportSize l) × (s3 ≡ output (roomOf reportSize l) (report n) l)
+    → (Done ≡ roomAnswer reportSize l) × (s3 ≡ output (roomAnswer reportSize l) (report n) l)
 reports l n h k e t0 e1 t1 e2 t2 e3 t3 =
-    let r : roomOf reportSize l ≡ Done = hit _ _ _ (le-leb _ _ h) in
+    let r : roomAnswer reportSize l ≡ Done = hit _ _ _ (le-leb _ _ h) in
     let q : scheduleSize ≤ length l = omega arith in (
       sym r,
       report-is l n h k (t0 ∙ hit _ _ _ (le-leb _ _ q) ∙ ap (λ (x : Versioned). written l 0 (scheduleBytes x)) e) (retry e1 t1)
@@ -57,7 +57,7 @@ long c l = ap length (owners-made (ownersTo (masksIn l atSchedule) (c .setup .co
 
 returns : tie.Need-returns
 returns c =
-    let r : roomOf reportSize (c .before .before .before .args .out .now) ≡ NoRoom = skip _ _ _ _ (lt-leb _ _ (c .if1 .taken)) refl in
+    let r : roomAnswer reportSize (c .before .before .before .args .out .now) ≡ NoRoom = skip _ _ _ _ (lt-leb _ _ (c .if1 .taken)) refl in
     (sym r, refusal NoRoom _ r refl _ _ .1)
 
 word-bytes-requires : tie.Need-word-bytes-requires

@@ -14,7 +14,7 @@ use Rattle.node.specs.declared.Sent.{Sent}
 use Rattle.node.proofs.Bare.{send-phase}
 use Rattle.wire.specs.Layout.{packetSize, packetBytes}
 use Rattle.wire.specs.Reads.{placed, hasPart}
-use Rattle.host.specs.Calls.{roomOf, output, sentAnswer}
+use Rattle.host.specs.Calls.{roomAnswer, output, sentAnswer}
 use Rattle.host.proofs.Answers.{then-next, then-stands, refusal, in-room}
 use borrow.Author.Needs.{needs}
 use Rattle.host.proofs.steps.send_into.Statement.{statement}
@@ -24,14 +24,14 @@ use Rattle.host.proofs.steps.send_into.Tie as tie
 module _ (n : Node) (l : List ℕ) {y : Answer} (e : y ≡ sendAnswer n) where
   refused-send : isDone y ≡ false → (y ≡ sentAnswer n l) × (l ≡ output (sentAnswer n l) (packetBytes (packetOf n)) l)
   refused-send f =
-      let z : sentAnswer n l ≡ y = then-stands (sendAnswer n) (roomOf packetSize l) (sym (ap isDone e) ∙ f) ∙ sym e in
+      let z : sentAnswer n l ≡ y = then-stands (sendAnswer n) (roomAnswer packetSize l) (sym (ap isDone e) ∙ f) ∙ sym e in
       (sym z, refusal _ _ z f _ _ .1)
 
   sends : {u v : Bool} {m : List ℕ} {q : Packet} → isDone y ≡ true → q ≡ packetOf n → u ≡ hasPart l 0
       → m ≡ cond (hasPart l 0) (placed l 0 q) l → u ≡ v
       → (cond v Done NoRoom ≡ sentAnswer n l) × (m ≡ output (sentAnswer n l) (packetBytes (packetOf n)) l)
   sends f g h w k =
-      let z = sym (then-next (sendAnswer n) (roomOf packetSize l) (sym (ap isDone e) ∙ f)) in (
+      let z = sym (then-next (sendAnswer n) (roomAnswer packetSize l) (sym (ap isDone e) ∙ f)) in (
         ap (λ (t : Bool). cond t Done NoRoom) (sym k ∙ h) ∙ z,
         w ∙ ap (λ (x : Packet). cond (hasPart l 0) (placed l 0 x) l) g ∙ in-room (hasPart l 0) (packetBytes (packetOf n)) l
             ∙ ap (λ (x : Answer). output x (packetBytes (packetOf n)) l) z,
@@ -53,8 +53,8 @@ returns c =
 send-requires : tie.Need-send-requires
 send-requires c κs = search needs
 
-place-packet-requires : tie.Need-place-packet-requires
-place-packet-requires c κs = search needs
+put-packet-requires : tie.Need-put-packet-requires
+put-packet-requires c κs = search needs
 
 same-length : tie.Need-same-length
 same-length c = search needs
@@ -62,7 +62,7 @@ same-length c = search needs
 returns-2 : tie.Need-returns-2
 returns-2 c =
     let d = c .before .before .before .before .before .before .before .before .before .before .before in
-    let w = c .before .before .before .place-packet .ensures in
+    let w = c .before .before .before .put-packet .ensures in
     sends (bare (d .args .c)) (d .args .out .now)
     (c .before .before .before .before .before .before .before .before .before .negotiation-answer .ensures
     ∙ sym (send-phase (bare (d .args .c))))
@@ -77,7 +77,7 @@ same-length-2 c = search needs
 returns-3 : tie.Need-returns-3
 returns-3 c =
     let d = c .before .before .before .before .before .before .before .before .before .before .before in
-    let w = c .before .before .before .place-packet .ensures in
+    let w = c .before .before .before .put-packet .ensures in
     sends (bare (d .args .c)) (d .args .out .now)
     (c .before .before .before .before .before .before .before .before .before .negotiation-answer .ensures
     ∙ sym (send-phase (bare (d .args .c))))
@@ -94,7 +94,7 @@ send-into-spec =
     is-done-requires
     returns
     send-requires
-    place-packet-requires
+    put-packet-requires
     same-length
     returns-2
     same-length-2

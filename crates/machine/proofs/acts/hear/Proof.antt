@@ -10,14 +10,14 @@ use Rattle.machine.specs.Layout.{Store, store, configIn, nodeIn, storedI
 use Rattle.machine.specs.Written.{writtenFront}
 use Rattle.machine.specs.Acts.{heardPut}
 use Rattle.machine.proofs.Moves.{heard-core, next-put}
-use Rattle.machine.proofs.Seats.{at-seat}
+use Rattle.machine.proofs.Seats.{at-node-index}
 use Rattle.machine.proofs.Whole.{at-place}
 use borrow.Author.Needs.{needs}
 use Rattle.machine.proofs.acts.hear.Statement.{statement}
 use Rattle.machine.proofs.acts.hear.Tie as tie
 
-no-place-requires : tie.Need-no-place-requires
-no-place-requires c κs = search needs
+no-node-requires : tie.Need-no-node-requires
+no-node-requires c κs = search needs
 
 same-length : tie.Need-same-length
 same-length c = search needs
@@ -30,19 +30,19 @@ unfolding heardPut
 returns c =
     let a = c .before .before .before .before .before .before .args in
     let s = store (a .words .now) (a .bytes .now) in
-    let e : s ≡ heardPut s (a .j) (a .q) = sym (hit _ _ _ (sym (c .before .no-place .ensures) ∙ c .if1 .taken)) in
+    let e : s ≡ heardPut s (a .j) (a .q) = sym (hit _ _ _ (sym (c .before .no-node .ensures) ∙ c .if1 .taken)) in
     (ap (λ (x : Store). x .words) e, ap (λ (x : Store). x .bytes) e)
 
-seat-requires : tie.Need-seat-requires
-seat-requires c κs = search needs
+node-index-requires : tie.Need-node-index-requires
+node-index-requires c κs = search needs
 
 core-at-requires : tie.Need-core-at-requires
 core-at-requires c κs =
     let c2 = c .before .before in
     let c4 = c2 .before .before in
     let a = c4 .before .before .before .before .before .args in
-    let h = at-place (store (a .words .now) (a .bytes .now)) (a .j) (sym (c4 .no-place .ensures) ∙ c2 .before .if1 .left) in
-    (c2 .seat .ensures .1, h .0, h .1 .0)
+    let h = at-place (store (a .words .now) (a .bytes .now)) (a .j) (sym (c4 .no-node .ensures) ∙ c2 .before .if1 .left) in
+    (c2 .node-index .ensures .1, h .0, h .1 .0)
 
 hear-requires : tie.Need-hear-requires
 hear-requires c κs = search needs
@@ -52,8 +52,8 @@ put-next-requires c κs =
     let c6 = c .before .before .before .before .before .before in
     let c8 = c6 .before .before in
     let a = c8 .before .before .before .before .before .args in
-    let h = at-place (store (a .words .now) (a .bytes .now)) (a .j) (sym (c8 .no-place .ensures) ∙ c6 .before .if1 .left) in
-    (c6 .seat .ensures .1, h .0, h .1 .0)
+    let h = at-place (store (a .words .now) (a .bytes .now)) (a .j) (sym (c8 .no-node .ensures) ∙ c6 .before .if1 .left) in
+    (c6 .node-index .ensures .1, h .0, h .1 .0)
 
 same-length-3 : tie.Need-same-length-3
 same-length-3 c = search needs
@@ -70,9 +70,9 @@ returns-2 c =
     let c13 = c11 .before .before in
     let a = c13 .before .before .before .before .before .args in
     let s = store (a .words .now) (a .bytes .now) in
-    let i = c11 .seat .result in
-    let p = sym (c13 .no-place .ensures) ∙ c11 .before .if1 .left in
-    let e = at-seat (configIn s) (a .j) (c11 .seat .ensures .0) (at-place s (a .j) p .1 .1) in
+    let i = c11 .node-index .result in
+    let p = sym (c13 .no-node .ensures) ∙ c11 .before .if1 .left in
+    let e = at-node-index (configIn s) (a .j) (c11 .node-index .ensures .0) (at-place s (a .j) p .1 .1) in
     let next = c4 .before .hear .ensures ∙ ap (λ (x : Core). coreOf (heardNode (bare x) (a .q))) (c8 .core-at .ensures)
     ∙ heard-core (nodeIn s i) (a .q) in
     let z : nextPut s i (c4 .before .hear .result) ≡ heardPut s (a .j) (a .q) =
@@ -85,11 +85,11 @@ pub hear-spec : {M : Type 1} → statement M
 hear-spec =
     tie.close
     (tie.spec
-    no-place-requires
+    no-node-requires
     same-length
     same-length-2
     returns
-    seat-requires
+    node-index-requires
     core-at-requires
     hear-requires
     put-next-requires

@@ -3,7 +3,7 @@ use mathlib.Core.Bool.{Bool}
 use Rattle.lists.specs.Bytes.{written}
 use Rattle.node.specs.Core.{bare}
 use Rattle.machine.specs.Inner.{memberOf}
-use Rattle.machine.specs.Layout.{roomAt, rowOf, frontOf}
+use Rattle.machine.specs.Layout.{nodeBytesAt, nodeWords, storedFront}
 use borrow.Author.Needs.{needs}
 use Rattle.machine.proofs.acts.put_next.Statement.{statement}
 use Rattle.machine.proofs.acts.put_next.Tie as tie
@@ -30,7 +30,8 @@ returns c =
     let a = c8 .before .before .before .before .args in (
       c6 .put-row .ensures,
       c .before .before .put-front .ensures
-          ∙ ap (λ (u : Bool). written (a .bytes .now) (roomAt (a .i)) (frontOf (memberOf u (bare (a .next))))) (c8 .is-up .ensures),
+          ∙ ap (λ (u : Bool). written (a .bytes .now) (nodeBytesAt (a .i)) (storedFront (memberOf u (bare (a .next)))))
+          (c8 .is-up .ensures),
     )
 
 pub put-next-spec : {M : Type 1} → statement M

@@ -7,7 +7,7 @@ use Rattle.lists.specs.Bytes.{written}
 use Rattle.node.specs.Core.{coreOf, bare}
 use Rattle.machine.specs.Inner.{memberOf}
 use Rattle.site.specs.Steps.{takenMember}
-use Rattle.machine.specs.Layout.{store, roomAt, frontOf, nodeIn, storedIn}
+use Rattle.machine.specs.Layout.{store, nodeBytesAt, storedFront, nodeIn, storedIn}
 use Rattle.machine.specs.Written.{handedOn, takenAt}
 use Rattle.machine.proofs.Moves.{stepped, taken-core, version-there, handed-node}
 use Rattle.machine.proofs.acts.take_from.Statement.{statement}
@@ -89,7 +89,7 @@ returns c =
     .before .before .take .ensures) in
     let handed = core ∙ sym (ap coreOf (handed-node s i (a .h) (p .0) (p .1) (p .3))) in
     let front = c .before .before .before .before .before .before .put-front .ensures
-    ∙ ap (λ (l : List ℕ). written l (roomAt i) (frontOf (memberOf up (bare next))))
+    ∙ ap (λ (l : List ℕ). written l (nodeBytesAt i) (storedFront (memberOf up (bare next))))
     (c .before .before .before .before .before .before .before .before .before .before .before .before .before .before .copy .ensures)
     in
     stepped (handedOn s i (a .h)) i (takenMember (storedIn s i) (storedIn s (a .h)))

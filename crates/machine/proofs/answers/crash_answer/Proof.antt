@@ -8,8 +8,8 @@ use borrow.Author.Needs.{needs}
 use Rattle.machine.proofs.answers.crash_answer.Statement.{statement}
 use Rattle.machine.proofs.answers.crash_answer.Tie as tie
 
-channel-at-requires : tie.Need-channel-at-requires
-channel-at-requires c κs = search needs
+header-at-requires : tie.Need-header-at-requires
+header-at-requires c κs = search needs
 
 outside-requires : tie.Need-outside-requires
 outside-requires c κs = search needs
@@ -20,7 +20,7 @@ returns c =
     let c5 = c .before .before .before .before .before in
     let a = c5 .args in
     let s = store (a .words .now) (a .bytes .now) in
-    sym (hit _ _ _ (out s (c .before .before .channel-at .ensures) (a .j) (c .before .outside .ensures) (c .if1 .taken)))
+    sym (hit _ _ _ (out s (c .before .before .header-at .ensures) (a .j) (c .before .outside .ensures) (c .if1 .taken)))
 
 up-requires : tie.Need-up-requires
 up-requires c κs = search needs
@@ -32,7 +32,7 @@ returns-2 c =
     let c7 = c4 .before .before .before in
     let a = c7 .args in
     let s = store (a .words .now) (a .bytes .now) in
-    let o = out s (c4 .channel-at .ensures) (a .j) (c .before .before .before .outside .ensures) (c .before .before .if1 .left) in
+    let o = out s (c4 .header-at .ensures) (a .j) (c .before .before .before .outside .ensures) (c .before .before .if1 .left) in
     sym (skip _ _ _ _ o (hit _ _ _ (up s (a .j) o refl (c .before .up .ensures) (c .if2 .taken))))
 
 returns-3 : tie.Need-returns-3
@@ -42,14 +42,14 @@ returns-3 c =
     let c7 = c4 .before .before .before in
     let a = c7 .args in
     let s = store (a .words .now) (a .bytes .now) in
-    let o = out s (c4 .channel-at .ensures) (a .j) (c .before .before .before .outside .ensures) (c .before .before .if1 .left) in
+    let o = out s (c4 .header-at .ensures) (a .j) (c .before .before .before .outside .ensures) (c .before .before .if1 .left) in
     sym (skip _ _ _ _ o (skip _ _ _ _ (up s (a .j) o refl (c .before .up .ensures) (c .if2 .left)) refl))
 
 pub crash-answer-spec : {M : Type 1} → statement M
 crash-answer-spec =
     tie.close
     (tie.spec
-    channel-at-requires
+    header-at-requires
     outside-requires
     returns
     up-requires

@@ -12,8 +12,8 @@ turned-about : (t : Bool) → cond (not t) Done WrongPhase ≡ cond t WrongPhase
 turned-about true = refl
 turned-about false = refl
 
-channel-at-requires : tie.Need-channel-at-requires
-channel-at-requires c κs = search needs
+header-at-requires : tie.Need-header-at-requires
+header-at-requires c κs = search needs
 
 in-phase-requires : tie.Need-in-phase-requires
 in-phase-requires c κs = search needs
@@ -24,8 +24,8 @@ returns c =
     let c5 = c .before .before .before .before .before in
     let a = c5 .args in
     let s = store (a .words .now) (a .bytes .now) in
-    c .in-phase .ensures ∙ ap (λ (b : Bool). cond (not b) Done WrongPhase) (sym (phase s (c .before .before .channel-at .ensures) refl))
+    c .in-phase .ensures ∙ ap (λ (b : Bool). cond (not b) Done WrongPhase) (sym (phase s (c .before .before .header-at .ensures) refl))
     ∙ turned-about (siteIn s .negotiates)
 
 pub end-answer-spec : {M : Type 1} → statement M
-end-answer-spec = tie.close (tie.spec channel-at-requires in-phase-requires returns)
+end-answer-spec = tie.close (tie.spec header-at-requires in-phase-requires returns)

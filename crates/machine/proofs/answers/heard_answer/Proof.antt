@@ -11,7 +11,7 @@ use Rattle.node.specs.Negotiation.{hearAnswer}
 use Rattle.wire.specs.Reads.{packetAnswer, partOf}
 use Rattle.wire.specs.declared.PacketRead.{PacketRead}
 use Rattle.site.specs.Answers.{isPacket}
-use Rattle.site.specs.declared.Channel.{Channel}
+use Rattle.site.specs.declared.SiteHeader.{SiteHeader}
 use Rattle.site.specs.Members.{memberAt}
 use borrow.Author.Needs.{needs}
 use Rattle.machine.proofs.answers.heard_answer.Statement.{statement}
@@ -31,8 +31,8 @@ returns c =
     hear-refused s (a .j) (c .before .before .ready .ensures) (partOf (a .area .now) (a .at)) (a .p)
     (sym (c .before .is-done .ensures) ∙ not-true (c .before .is-done .result) (c .if1 .taken))
 
-channel-at-requires : tie.Need-channel-at-requires
-channel-at-requires c κs = search needs
+header-at-requires : tie.Need-header-at-requires
+header-at-requires c κs = search needs
 
 is-packet-requires : tie.Need-is-packet-requires
 is-packet-requires c κs = search needs
@@ -44,7 +44,7 @@ returns-2 c =
     let c9 = c5 .before .before .before .before in
     let a = c9 .args in
     let s = store (a .words .now) (a .bytes .now) in
-    sym (hit _ _ _ (ap (λ (x : Channel). not (isPacket x (a .p))) (sym (c .before .before .channel-at .ensures))
+    sym (hit _ _ _ (ap (λ (x : SiteHeader). not (isPacket x (a .p))) (sym (c .before .before .header-at .ensures))
     ∙ ap not (sym (c .before .is-packet .ensures)) ∙ c .if2 .taken))
     ∙ hear-rest s (a .j) (c5 .ready .ensures) (partOf (a .area .now) (a .at)) (a .p)
     (sym (c4 .is-done .ensures) ∙ not-false (c4 .is-done .result) (c .before .before .before .if1 .left))
@@ -68,9 +68,9 @@ returns-3 c =
     let a = c13 .args in
     let s = store (a .words .now) (a .bytes .now) in
     let e = ap (λ (x : PacketRead). x .answer) (c .before .before .packet-at .ensures)
-    ∙ ap (λ (x : Channel). packetAnswer (x .config .nodes) (partOf (a .area .now) (a .at))) (c6 .channel-at .ensures) in
+    ∙ ap (λ (x : SiteHeader). packetAnswer (x .config .nodes) (partOf (a .area .now) (a .at))) (c6 .header-at .ensures) in
     let d = sym (c .before .is-done2 .ensures) ∙ not-true (c .before .is-done2 .result) (c .if3 .taken) in
-    e ∙ sym (skip _ _ _ _ (ap (λ (x : Channel). not (isPacket x (a .p))) (sym (c6 .channel-at .ensures))
+    e ∙ sym (skip _ _ _ _ (ap (λ (x : SiteHeader). not (isPacket x (a .p))) (sym (c6 .header-at .ensures))
     ∙ ap not (sym (c5 .is-packet .ensures)) ∙ c4 .if2 .left) (skip _ _ _ _ (ap isDone (sym e) ∙ d) refl))
     ∙ hear-rest s (a .j) (c9 .ready .ensures) (partOf (a .area .now) (a .at)) (a .p)
     (sym (c8 .is-done .ensures) ∙ not-false (c8 .is-done .result) (c7 .if1 .left))
@@ -92,13 +92,13 @@ returns-4 c =
     let a = c15 .args in
     let s = store (a .words .now) (a .bytes .now) in
     let e = ap (λ (x : PacketRead). x .answer) (c4 .packet-at .ensures)
-    ∙ ap (λ (x : Channel). packetAnswer (x .config .nodes) (partOf (a .area .now) (a .at))) (c8 .channel-at .ensures) in
+    ∙ ap (λ (x : SiteHeader). packetAnswer (x .config .nodes) (partOf (a .area .now) (a .at))) (c8 .header-at .ensures) in
     let d = sym (c .before .before .before .is-done2 .ensures)
     ∙ not-false (c .before .before .before .is-done2 .result) (c .before .before .if3 .left) in
     let o = ready-out s (a .j) (c11 .ready .ensures) (sym (c10 .is-done .ensures) ∙ not-false (c10 .is-done .result) (c9 .if1 .left)) in
     c .hear-answer .ensures ∙ heard-read s (a .j) o (c15 .pre .0) (c15 .pre .1) _
     ∙ ap (hearAnswer (memberAt (siteIn s) (a .j) .node)) (ap (λ (x : PacketRead). x .packet) (c4 .packet-at .ensures))
-    ∙ sym (skip _ _ _ _ (ap (λ (x : Channel). not (isPacket x (a .p))) (sym (c8 .channel-at .ensures))
+    ∙ sym (skip _ _ _ _ (ap (λ (x : SiteHeader). not (isPacket x (a .p))) (sym (c8 .header-at .ensures))
     ∙ ap not (sym (c7 .is-packet .ensures)) ∙ c6 .if2 .left) (hit _ _ _ (ap isDone (sym e) ∙ d)))
     ∙ hear-rest s (a .j) (c11 .ready .ensures) (partOf (a .area .now) (a .at)) (a .p)
     (sym (c10 .is-done .ensures) ∙ not-false (c10 .is-done .result) (c9 .if1 .left))
@@ -110,7 +110,7 @@ heard-answer-spec =
     ready-requires
     is-done-requires
     returns
-    channel-at-requires
+    header-at-requires
     is-packet-requires
     returns-2
     packet-at-requires

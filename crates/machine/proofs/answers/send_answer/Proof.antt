@@ -9,7 +9,7 @@ use Rattle.node.specs.Negotiation.{inNegotiation}
 use Rattle.node.proofs.Bare.{send-phase}
 use Rattle.site.specs.Members.{memberAt}
 use Rattle.site.specs.Answers.{isFull}
-use Rattle.site.specs.declared.Channel.{Channel}
+use Rattle.site.specs.declared.SiteHeader.{SiteHeader}
 use borrow.Author.Needs.{needs}
 use Rattle.machine.proofs.answers.send_answer.Statement.{statement}
 use Rattle.machine.proofs.answers.send_answer.Tie as tie
@@ -28,8 +28,8 @@ returns c =
     send-refused s (a .j) (c .before .before .ready .ensures)
     (sym (c .before .is-done .ensures) ∙ not-true (c .before .is-done .result) (c .if1 .taken))
 
-channel-at-requires : tie.Need-channel-at-requires
-channel-at-requires c κs = search needs
+header-at-requires : tie.Need-header-at-requires
+header-at-requires c κs = search needs
 
 is-full-requires : tie.Need-is-full-requires
 is-full-requires c κs = search needs
@@ -41,7 +41,8 @@ returns-2 c =
     let c8 = c5 .before .before .before in
     let a = c8 .args in
     let s = store (a .words .now) (a .bytes .now) in
-    sym (hit _ _ _ (ap (λ (x : Channel). isFull x (a .j)) (sym (c .before .before .channel-at .ensures)) ∙ sym (c .before .is-full .ensures)
+    sym (hit _ _ _ (ap (λ (x : SiteHeader). isFull x (a .j)) (sym (c .before .before .header-at .ensures))
+    ∙ sym (c .before .is-full .ensures)
     ∙ c .if2 .taken)) ∙ send-rest s (a .j) (c5 .ready .ensures)
     (sym (c4 .is-done .ensures) ∙ not-false (c4 .is-done .result) (c .before .before .before .if1 .left))
 
@@ -62,7 +63,7 @@ returns-3 c =
     let o = ready-out s (a .j) ready done in
     c .negotiation-answer .ensures ∙ ap inNegotiation (the-phase s (a .j) o refl (c .before .phase .ensures))
     ∙ sym (send-phase (memberAt (siteIn s) (a .j) .node))
-    ∙ sym (skip _ _ _ _ (ap (λ (x : Channel). isFull x (a .j)) (sym (c .before .before .before .before .channel-at .ensures))
+    ∙ sym (skip _ _ _ _ (ap (λ (x : SiteHeader). isFull x (a .j)) (sym (c .before .before .before .before .header-at .ensures))
     ∙ sym (c .before .before .before .is-full .ensures) ∙ c .before .before .if2 .left) refl) ∙ send-rest s (a .j) ready done
 
 pub send-answer-spec : {M : Type 1} → statement M
@@ -72,7 +73,7 @@ send-answer-spec =
     ready-requires
     is-done-requires
     returns
-    channel-at-requires
+    header-at-requires
     is-full-requires
     returns-2
     phase-requires

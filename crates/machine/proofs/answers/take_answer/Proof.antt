@@ -18,8 +18,8 @@ use borrow.Author.Needs.{needs}
 use Rattle.machine.proofs.answers.take_answer.Statement.{statement}
 use Rattle.machine.proofs.answers.take_answer.Tie as tie
 
-channel-at-requires : tie.Need-channel-at-requires
-channel-at-requires c κs = search needs
+header-at-requires : tie.Need-header-at-requires
+header-at-requires c κs = search needs
 
 outside-requires : tie.Need-outside-requires
 outside-requires c κs = search needs
@@ -33,7 +33,7 @@ returns c =
     let c6 = c .before .before .before .before .before .before in
     let a = c6 .args in
     let s = store (a .words .now) (a .bytes .now) in
-    let w = outs s (c .before .before .before .channel-at .ensures) (a .j) (a .g) (c .before .before .outside .ensures)
+    let w = outs s (c .before .before .before .header-at .ensures) (a .j) (a .g) (c .before .before .outside .ensures)
     (c .before .outside2 .ensures) (c .if1 .taken) in
     sym (hit _ _ _ w)
 
@@ -44,9 +44,9 @@ returns-2 c =
     let c7 = c4 .before .before .before in
     let a = c7 .args in
     let s = store (a .words .now) (a .bytes .now) in
-    let w = outs s (c4 .channel-at .ensures) (a .j) (a .g) (c .before .before .before .outside .ensures)
+    let w = outs s (c4 .header-at .ensures) (a .j) (a .g) (c .before .before .before .outside .ensures)
     (c .before .before .outside2 .ensures) (c .before .if1 .left) in
-    sym (skip _ _ _ _ w (hit _ _ _ (phase s (c4 .channel-at .ensures) (c .if2 .taken))))
+    sym (skip _ _ _ _ w (hit _ _ _ (phase s (c4 .header-at .ensures) (c .if2 .taken))))
 
 live-requires : tie.Need-live-requires
 live-requires c κs = search needs
@@ -64,9 +64,9 @@ returns-3 c =
     let c10 = c7 .before .before .before in
     let a = c10 .args in
     let s = store (a .words .now) (a .bytes .now) in
-    let w = outs s (c7 .channel-at .ensures) (a .j) (a .g) (c6 .outside .ensures) (c5 .outside2 .ensures) (c4 .if1 .left) in
+    let w = outs s (c7 .header-at .ensures) (a .j) (a .g) (c6 .outside .ensures) (c5 .outside2 .ensures) (c4 .if1 .left) in
     let v = or-neither _ _ w in
-    sym (skip _ _ _ _ w (skip _ _ _ _ (phase s (c7 .channel-at .ensures) (c .before .before .before .if2 .left))
+    sym (skip _ _ _ _ w (skip _ _ _ _ (phase s (c7 .header-at .ensures) (c .before .before .before .if2 .left))
     (hit _ _ _ (ap₂ (λ (x y : Bool). not x || not y) (live s (a .j) (v .0) refl (c .before .before .live .ensures) refl)
     (live s (a .g) (v .1) refl (c .before .live2 .ensures) refl) ∙ c .if3 .taken))))
 
@@ -84,7 +84,7 @@ unfolding siteTake
 returns-4 c =
     let a = c .before .before .before .before .before .before .before .before .before .before .before .before .before .before .args in
     let s = store (a .words .now) (a .bytes .now) in
-    let k = c .before .before .before .before .before .before .before .before .before .before .before .channel-at .ensures in
+    let k = c .before .before .before .before .before .before .before .before .before .before .before .header-at .ensures in
     let w = outs s k (a .j) (a .g) (c .before .before .before .before .before .before .before .before .before .before .outside .ensures)
     (c .before .before .before .before .before .before .before .before .before .outside2 .ensures)
     (c .before .before .before .before .before .before .before .before .if1 .left) in
@@ -112,7 +112,7 @@ returns-5 c =
     let a = c .before .before .before .before .before .before .before .before .before .before .before .before .before .before .before .args
     in
     let s = store (a .words .now) (a .bytes .now) in
-    let k = c .before .before .before .before .before .before .before .before .before .before .before .before .channel-at .ensures in
+    let k = c .before .before .before .before .before .before .before .before .before .before .before .before .header-at .ensures in
     let w = outs s k (a .j) (a .g) (c .before .before .before .before .before .before .before .before .before .before .before .outside
     .ensures) (c .before .before .before .before .before .before .before .before .before .before .outside2 .ensures)
     (c .before .before .before .before .before .before .before .before .before .if1 .left) in
@@ -133,7 +133,7 @@ pub take-answer-spec : {M : Type 1} → statement M
 take-answer-spec =
     tie.close
     (tie.spec
-    channel-at-requires
+    header-at-requires
     outside-requires
     outside-requires-2
     returns

@@ -7,14 +7,14 @@ use Rattle.lists.specs.All.{tab}
 use Rattle.lists.proofs.Laws.{fill-none, fill-more, fill-end}
 use Rattle.machine.specs.Layout.{store, siteIn}
 use Rattle.tally.specs.Claims.{heldBy}
-use Rattle.tally.specs.Ends.{schedulesAt}
+use Rattle.tally.specs.Ends.{schedulesOf}
 use borrow.Author.Needs.{needs}
 use Rattle.machine.proofs.turn.Held.{slots-read}
 use Rattle.machine.proofs.epochs.slots_held.Statement.{statement}
 use Rattle.machine.proofs.epochs.slots_held.Tie as tie
 
 abbrev Inv-loop : tie.InvT-loop
-Inv-loop words bytes l₀ i₀ l i = (i ≤ 32) × (length l₀ ≡ 32) × (l ≡ tab i (heldBy (schedulesAt (siteIn (store words bytes)))) ++ drop i l₀)
+Inv-loop words bytes l₀ i₀ l i = (i ≤ 32) × (length l₀ ≡ 32) × (l ≡ tab i (heldBy (schedulesOf (siteIn (store words bytes)))) ++ drop i l₀)
 
 abbrev μ-loop : tie.MeasureT-loop
 μ-loop words bytes l₀ i₀ l i = 32 - i
@@ -47,7 +47,7 @@ loop-again c =
     let s = store (d .args .words .now) (d .args .bytes .now) in (
       omega arith,
       refl,
-      fill-more _ (heldBy (schedulesAt (siteIn s))) _ _ _ (omega arith) (l .inv .2)
+      fill-more _ (heldBy (schedulesOf (siteIn s))) _ _ _ (omega arith) (l .inv .2)
           (c .slots-held .ensures ∙ slots-read s (l .i) (d .pre .0) (d .pre .1) (omega arith)),
     )
 
@@ -55,7 +55,7 @@ returns : tie.Need-returns Inv-loop μ-loop
 returns c =
     let d = c .before .before .before .before in
     let s = store (d .args .words .now) (d .args .bytes .now) in
-    fill-end _ 32 (heldBy (schedulesAt (siteIn s))) _ _ (c .before .loop .inv .2) (omega arith) (omega arith)
+    fill-end _ 32 (heldBy (schedulesOf (siteIn s))) _ _ (c .before .loop .inv .2) (omega arith) (omega arith)
 
 pub slots-held-spec : {M : Type 1} → statement M
 slots-held-spec =

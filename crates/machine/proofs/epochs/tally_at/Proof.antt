@@ -3,18 +3,18 @@ use Prim.Native.Nat.{_-_}
 use borrow.Author.Tests.{eq-eqb, ne-eqb}
 use lib.Dec.{eqb}
 use Rattle.words.proofs.Tests.{hit, skip}
-use Rattle.site.specs.declared.Channel.{Channel}
+use Rattle.site.specs.declared.SiteHeader.{SiteHeader}
 use Rattle.machine.specs.Layout.{store, siteIn}
-use Rattle.machine.proofs.Whole.{as-channel}
+use Rattle.machine.proofs.Whole.{as-header}
 use Rattle.tally.specs.Counting.{countedBy}
-use Rattle.tally.specs.Ends.{schedulesAt, tallyAt}
+use Rattle.tally.specs.Ends.{schedulesOf, tallyAt}
 use Rattle.tally.proofs.Valid.{counted-by}
 use borrow.Author.Needs.{needs}
 use Rattle.machine.proofs.epochs.tally_at.Statement.{statement}
 use Rattle.machine.proofs.epochs.tally_at.Tie as tie
 
-channel-requires : tie.Need-channel-requires
-channel-requires c κs = search needs
+header-requires : tie.Need-header-requires
+header-requires c κs = search needs
 
 slots-held-requires : tie.Need-slots-held-requires
 slots-held-requires c κs = c .before .before .before .before .before .pre
@@ -28,9 +28,9 @@ returns c =
     let d = c .before .before .before .before in
     let a = d .before .before .before in
     let s = store (a .args .words .now) (a .args .bytes .now) in
-    let k = d .channel .ensures ∙ as-channel s (a .pre .0) (a .pre .1) in
+    let k = d .header .ensures ∙ as-header s (a .pre .0) (a .pre .1) in
     c .counted .ensures ∙ ap (countedBy (a .args .t)) (c .before .slots-held .ensures)
-    ∙ counted-by (a .args .t) (schedulesAt (siteIn s)) ∙ sym (hit _ _ _ (sym (ap (λ (x : Channel). eqb (x .place) 0) k)
+    ∙ counted-by (a .args .t) (schedulesOf (siteIn s)) ∙ sym (hit _ _ _ (sym (ap (λ (x : SiteHeader). eqb (x .place) 0) k)
     ∙ eq-eqb _ _ (c .before .before .if1 .taken)))
 
 returns-2 : tie.Need-returns-2
@@ -39,9 +39,9 @@ returns-2 c =
     let d = c .before .before in
     let a = d .before .before .before in
     let s = store (a .args .words .now) (a .args .bytes .now) in
-    let k = d .channel .ensures ∙ as-channel s (a .pre .0) (a .pre .1) in
-    sym (skip _ _ _ _ (sym (ap (λ (x : Channel). eqb (x .place) 0) k) ∙ ne-eqb _ _ (c .if1 .left)) refl)
+    let k = d .header .ensures ∙ as-header s (a .pre .0) (a .pre .1) in
+    sym (skip _ _ _ _ (sym (ap (λ (x : SiteHeader). eqb (x .place) 0) k) ∙ ne-eqb _ _ (c .if1 .left)) refl)
 
 pub tally-at-spec : {M : Type 1} → statement M
 tally-at-spec =
-    tie.close (tie.spec channel-requires slots-held-requires counted-requires returns returns-2)
+    tie.close (tie.spec header-requires slots-held-requires counted-requires returns returns-2)

@@ -1,6 +1,6 @@
 use mathlib.Core.Path.{ap, _∙_}
 use mathlib.Core.Bool.{true}
-use Rattle.site.specs.declared.Channel.{Channel}
+use Rattle.site.specs.declared.SiteHeader.{SiteHeader}
 use Rattle.site.specs.Model.{Member}
 use Rattle.site.proofs.Accepted.{restart-accepted}
 use Rattle.machine.specs.Layout.{Store, store, siteIn}
@@ -13,8 +13,8 @@ use borrow.Author.Needs.{needs}
 use Rattle.machine.proofs.events.restart.Statement.{statement}
 use Rattle.machine.proofs.events.restart.Tie as tie
 
-channel-at-requires : tie.Need-channel-at-requires
-channel-at-requires c κs = search needs
+header-at-requires : tie.Need-header-at-requires
+header-at-requires c κs = search needs
 
 restart-requires : tie.Need-restart-requires
 restart-requires c κs = search needs
@@ -36,8 +36,8 @@ returns c =
     let p = d .pre in
     let s = store (a .words .now) (a .bytes .now) in
     let o = in-config s (a .j) (restart-accepted (siteIn s) (a .j) (a .flags) (p .2) .node) in
-    let k = c .before .before .before .before .before .before .before .before .before .channel-at .ensures in
-    let m = waits true (a .j) (a .flags) (ap (λ (x : Channel). x .config) k) (ap (λ (x : Channel). x .place) k)
+    let k = c .before .before .before .before .before .before .before .before .before .header-at .ensures in
+    let m = waits true (a .j) (a .flags) (ap (λ (x : SiteHeader). x .config) k) (ap (λ (x : SiteHeader). x .place) k)
     (c .before .before .before .before .before .before .before .restart .ensures) in
     let z = stored-member s (a .j) (p .0) (p .1) o _ in (
       c .before .before .before .before .set-free .ensures .0 ∙ ap (λ (y : Member). memberPut s (a .j) y .words) m
@@ -50,7 +50,7 @@ pub restart-spec : {M : Type 1} → statement M
 restart-spec =
     tie.close
     (tie.spec
-    channel-at-requires
+    header-at-requires
     restart-requires
     set-free-requires
     same-length

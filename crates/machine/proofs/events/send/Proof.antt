@@ -5,8 +5,8 @@ use borrow.Author.Needs.{needs}
 use Rattle.machine.proofs.events.send.Statement.{statement}
 use Rattle.machine.proofs.events.send.Tie as tie
 
-channel-at-requires : tie.Need-channel-at-requires
-channel-at-requires c κs = search needs
+header-at-requires : tie.Need-header-at-requires
+header-at-requires c κs = search needs
 
 packets-requires : tie.Need-packets-requires
 packets-requires c κs = search needs
@@ -26,7 +26,7 @@ returns c =
     let s = store (a .words .now) (a .bytes .now) in
     let o = c .before .before .before .before .send-into .ensures in (
       o .0,
-      o .1 ∙ area-sent s (a .j) (a .area .now) (c .before .before .before .before .before .before .before .before .channel-at .ensures)
+      o .1 ∙ area-sent s (a .j) (a .area .now) (c .before .before .before .before .before .before .before .before .header-at .ensures)
           (c .before .before .before .before .before .packets .ensures),
     )
 
@@ -34,7 +34,7 @@ pub send-spec : {M : Type 1} → statement M
 send-spec =
     tie.close
     (tie.spec
-    channel-at-requires
+    header-at-requires
     packets-requires
     send-into-requires
     same-length

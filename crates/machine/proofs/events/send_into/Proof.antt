@@ -6,7 +6,7 @@ use lib.ListN.{set, getD}
 use Rattle.site.specs.Steps.{stored}
 use Rattle.site.proofs.Accepted.{send-accepted}
 use Rattle.machine.specs.Layout.{store, configIn, siteIn, atSent}
-use Rattle.machine.proofs.Seats.{at-seat, in-config}
+use Rattle.machine.proofs.Seats.{at-node-index, in-config}
 use Rattle.machine.specs.steps.After.{sentStore}
 use Rattle.machine.proofs.steps.Acts.{sent-at, sent-packet, packet-there}
 use borrow.Author.Needs.{needs}
@@ -16,11 +16,11 @@ use Rattle.machine.proofs.events.send_into.Tie as tie
 packet-requires : tie.Need-packet-requires
 packet-requires c κs = search needs
 
-place-packet-requires : tie.Need-place-packet-requires
-place-packet-requires c κs = search needs
+put-packet-requires : tie.Need-put-packet-requires
+put-packet-requires c κs = search needs
 
-seat-requires : tie.Need-seat-requires
-seat-requires c κs = search needs
+node-index-requires : tie.Need-node-index-requires
+node-index-requires c κs = search needs
 
 add-before : tie.Need-add-before
 add-before c = search needs
@@ -35,8 +35,8 @@ add-bytes c =
     let s = store (a .words .now) (a .bytes .now) in
     let q = send-accepted (siteIn s) (a .j) (c11 .pre .2) in
     let o = in-config s (a .j) (q .0 .node) in
-    let e = at-seat (configIn s) (a .j) (c .before .seat .ensures .0) o in
-    let k : getD (a .bytes .now) (atSent + c .before .seat .result) 0 < 8 = rw (e, ← sent-at s (a .j) o) (q .1) in
+    let e = at-node-index (configIn s) (a .j) (c .before .node-index .ensures .0) o in
+    let k : getD (a .bytes .now) (atSent + c .before .node-index .result) 0 < 8 = rw (e, ← sent-at s (a .j) o) (q .1) in
     omega arith
 
 add-bytes-2 : tie.Need-add-bytes-2
@@ -60,10 +60,10 @@ returns c =
     let s = store (a .words .now) (a .bytes .now) in
     let p = c11 .pre in
     let o = in-config s (a .j) (send-accepted (siteIn s) (a .j) (p .2) .0 .node) in
-    let e = at-seat (configIn s) (a .j) (c .before .seat .ensures .0) o in
+    let e = at-node-index (configIn s) (a .j) (c .before .node-index .ensures .0) o in
     let q = c4 .before .packet .ensures ∙ sent-packet s (p .0) (p .1) (a .j) o ∙ packet-there s (a .j) o in (
       ap (λ (x : ℕ). set (a .bytes .now) (atSent + x) (getD (a .bytes .now) (atSent + x) 0 + 1)) e,
-      c4 .place-packet .ensures .1 ∙ ap (stored (a .area .now) (a .at)) q,
+      c4 .put-packet .ensures .1 ∙ ap (stored (a .area .now) (a .at)) q,
     )
 
 pub send-into-spec : {M : Type 1} → statement M
@@ -71,8 +71,8 @@ send-into-spec =
     tie.close
     (tie.spec
     packet-requires
-    place-packet-requires
-    seat-requires
+    put-packet-requires
+    node-index-requires
     add-before
     slice-read-before
     add-bytes

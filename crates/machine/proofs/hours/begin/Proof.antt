@@ -3,7 +3,7 @@ use mathlib.Core.Bool.{true, false}
 use borrow.Author.Tests.{not-true, not-false}
 use Rattle.node.specs.Figures.{isLast}
 use Rattle.words.proofs.Tests.{hit, skip}
-use Rattle.site.specs.declared.Channel.{Channel}
+use Rattle.site.specs.declared.SiteHeader.{SiteHeader}
 use Rattle.site.specs.declared.Event.the-variants.{End}
 use Rattle.windows.specs.Copies.{windowsIn}
 use Rattle.machine.specs.Layout.{Store, store, siteIn}
@@ -23,7 +23,8 @@ returns c =
     let a = d .before .args in
     let s = store (a .words .now) (a .bytes .now) in
     let l = c .before .in-last-round in
-    let f : inLastRound (siteIn s) ≡ false = sym (ap (λ (k : Channel). isLast (k .config) (k .place)) (d .before .pre)) ∙ sym (l .ensures)
+    let f : inLastRound (siteIn s)
+    ≡ false = sym (ap (λ (k : SiteHeader). isLast (k .config) (k .place)) (d .before .pre)) ∙ sym (l .ensures)
     ∙ not-true (l .result) (c .if1 .taken) in
     let e : s ≡ begunStore s (a .day) (a .area .now) (windowsIn (a .w .now)) End = sym (skip (inLastRound (siteIn s)) _ s _ f refl) in
     (sym (skip _ _ _ _ f refl), (ap (λ (x : Store). x .words) e, (ap (λ (x : Store). x .bytes) e, refl)))
@@ -34,7 +35,7 @@ next-requires c κs = search needs
 give-requires : tie.Need-give-requires
 give-requires c κs =
     let c10 = c .before .before .before .before .before .before .before .before .before .before in
-    ap (λ (k : Channel). k .config .nodes) (c10 .before .pre)
+    ap (λ (k : SiteHeader). k .config .nodes) (c10 .before .pre)
 
 same-length : tie.Need-same-length
 same-length c = search needs
@@ -58,7 +59,7 @@ returns-2 c =
     let l = c13 .in-last-round in
     let n = c10 .next in
     let o = c6 .give .ensures in
-    let f : inLastRound (siteIn s) ≡ true = sym (ap (λ (k : Channel). isLast (k .config) (k .place)) (d .before .pre)) ∙ sym (l .ensures)
+    let f : inLastRound (siteIn s) ≡ true = sym (ap (λ (k : SiteHeader). isLast (k .config) (k .place)) (d .before .pre)) ∙ sym (l .ensures)
     ∙ not-false (l .result) (c12 .if1 .left) in
     let e : givenStore (windowsIn (a .w .now)) (n .result .epoch) (a .area .now) s
     ≡ begunStore s (a .day) (a .area .now) (windowsIn (a .w .now)) End =

@@ -5,7 +5,7 @@ use Rattle.site.specs.declared.Event.the-variants.{End}
 use Rattle.windows.specs.Copies.{windowsIn}
 use Rattle.machine.specs.Layout.{store}
 use Rattle.machine.specs.hours.Stored.{begunStore}
-use Rattle.machine.proofs.hours.Known.{refused-plain, refused-list, accepted-channel, done-tested}
+use Rattle.machine.proofs.hours.Known.{refused-plain, refused-list, accepted-header, done-tested}
 use borrow.Author.Needs.{needs}
 use Rattle.machine.proofs.hours.end.Statement.{statement}
 use Rattle.machine.proofs.hours.end.Tie as tie
@@ -50,8 +50,8 @@ returns-2 c =
     refused-list (a .ok) s (a .day) (a .area .now) (windowsIn (a .w .now)) (c .before .before .before .answer-to .ensures)
     (sym (d .ensures) ∙ not-false (d .result) (c .before .if1 .left)) (not-true (a .ok) (c .if2 .taken))
 
-channel-requires : tie.Need-channel-requires
-channel-requires c κs = search needs
+header-requires : tie.Need-header-requires
+header-requires c κs = search needs
 
 begin-requires : tie.Need-begin-requires
 begin-requires c κs =
@@ -59,8 +59,9 @@ begin-requires c κs =
     let a = c9 .before .before .before .before .before .before .before .before .args in
     let s = store (a .words .now) (a .bytes .now) in
     let d = c .before .before .before .before .before .before .before .before .is-done in
-    accepted-channel (a .ok) s (a .day) (a .area .now) (windowsIn (a .w .now)) (c9 .answer-to .ensures)
-    (sym (d .ensures) ∙ not-false (d .result) (c .before .before .before .before .before .before .before .if1 .left)) (c .before .before .before .channel .ensures)
+    accepted-header (a .ok) s (a .day) (a .area .now) (windowsIn (a .w .now)) (c9 .answer-to .ensures)
+    (sym (d .ensures) ∙ not-false (d .result) (c .before .before .before .before .before .before .before .if1 .left))
+    (c .before .before .before .header .ensures)
 
 step-requires : tie.Need-step-requires
 step-requires c κs = search needs
@@ -87,7 +88,8 @@ returns-3 c =
     let g : store (b .last .0) (b .last .1 .0) ≡ begunStore s (a .day) (a .area .now) (windowsIn (a .w .now)) End =
     λ i. record { words = (b .ensures .1 .0) i; bytes = (b .ensures .1 .1 .0) i } in
     done-tested (a .ok) s (a .day) (a .area .now) (windowsIn (a .w .now)) (c25 .before .answer-to .ensures)
-    (sym (d .ensures) ∙ not-false (d .result) (c16 .before .before .before .before .before .before .before .before .if1 .left)) (not-false (a .ok) (c16 .before .before .before .before .before .before .before .if2 .left))
+    (sym (d .ensures) ∙ not-false (d .result) (c16 .before .before .before .before .before .before .before .before .if1 .left))
+    (not-false (a .ok) (c16 .before .before .before .before .before .before .before .if2 .left))
     g (b .ensures .0) (b .ensures .1 .1 .1) (o .1 .0) (o .1 .1 .0) (o .1 .1 .1 .1)
 
 pub end-spec : {M : Type 1} → statement M
@@ -104,7 +106,7 @@ end-spec =
     same-length-5
     same-length-6
     returns-2
-    channel-requires
+    header-requires
     begin-requires
     step-requires
     same-length-7

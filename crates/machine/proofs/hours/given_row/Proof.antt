@@ -16,7 +16,8 @@ cast-t8 c = let h : c .before .before .before .args .row .want ≤ 255 = omega a
     in omega (
       arith,
       c .due-at .ensures,
-      due-small _ _ _ (c .before .before .before .pre) (c .before .before .before .args .j) 0 (c .before .before .before .args .row .want) 255
+      due-small _ _ _ (c .before .before .before .pre) (c .before .before .before .args .j) 0
+          (c .before .before .before .args .row .want) 255
           (omega arith) h,
     )
 

@@ -1,7 +1,7 @@
 use mathlib.Core.Path.{refl, sym, ap, _∙_}
 use borrow.Author.Tests.{not-true, not-false}
 use Rattle.words.proofs.Tests.{hit, skip}
-use Rattle.site.specs.declared.Channel.{Channel}
+use Rattle.site.specs.declared.SiteHeader.{SiteHeader}
 use Rattle.windows.specs.Windows.{listOk}
 use Rattle.windows.specs.Copies.{windowsIn}
 use borrow.Author.Needs.{needs}
@@ -14,8 +14,8 @@ is-end-requires c κs = search needs
 returns : tie.Need-returns
 returns c = sym (skip _ _ _ _ (sym (c .before .is-end .ensures) ∙ not-true (c .before .is-end .result) (c .if1 .taken)) refl)
 
-channel-requires : tie.Need-channel-requires
-channel-requires c κs = search needs
+header-requires : tie.Need-header-requires
+header-requires c κs = search needs
 
 list-ok-requires : tie.Need-list-ok-requires
 list-ok-requires c κs = search needs
@@ -25,9 +25,9 @@ returns-2 c =
     let a = c .before .before .before .before .before .before .before .before .args in
     let e = c .before .before .before .before .is-end in
     c .list-ok .ensures
-    ∙ ap (λ (x : Channel). listOk (x .config .nodes) (a .day .length) (windowsIn (a .w .now))) (c .before .before .channel .ensures)
+    ∙ ap (λ (x : SiteHeader). listOk (x .config .nodes) (a .day .length) (windowsIn (a .w .now))) (c .before .before .header .ensures)
     ∙ sym (hit _ _ _ (sym (e .ensures) ∙ not-false (e .result) (c .before .before .before .if1 .left)))
 
 pub tested-spec : {M : Type 1} → statement M
 tested-spec =
-    tie.close (tie.spec is-end-requires returns channel-requires list-ok-requires returns-2)
+    tie.close (tie.spec is-end-requires returns header-requires list-ok-requires returns-2)

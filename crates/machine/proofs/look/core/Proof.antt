@@ -3,13 +3,13 @@ use Rattle.words.proofs.Tests.{hit, skip}
 use Rattle.node.specs.Begin.{waiting}
 use Rattle.node.specs.Core.{coreOf}
 use Rattle.site.specs.Members.{outside, setupOf}
-use Rattle.site.specs.declared.Channel.{Channel}
+use Rattle.site.specs.declared.SiteHeader.{SiteHeader}
 use Rattle.node.specs.declared.Config.{Config}
 use Rattle.site.specs.Model.{Member}
 use Rattle.machine.specs.Inner.{coreIn}
 use Rattle.machine.specs.Layout.{store, configIn}
 use Rattle.machine.specs.Loading.{memberRead}
-use Rattle.machine.proofs.Seats.{config-are, outside-as, at-seat}
+use Rattle.machine.proofs.Seats.{config-are, outside-as, at-node-index}
 use Rattle.machine.proofs.Whole.{long-enough, stored-read}
 use borrow.Author.Needs.{needs}
 use Rattle.machine.proofs.look.core.Statement.{statement}
@@ -29,8 +29,8 @@ returns c =
     ∙ ap (λ (f : Config). coreOf (waiting (setupOf f (a .j)) 0 0 0)) (c .before .none .ensures)
     ∙ sym (ap (λ (m : Member). coreOf (m .node)) (hit _ _ _ (c .before .before .if1 .taken)))
 
-channel-at-requires : tie.Need-channel-at-requires
-channel-at-requires c κs =
+header-at-requires : tie.Need-header-at-requires
+header-at-requires c κs =
     let a = c .before .before .before .args in
     long-enough (store (a .words .now) (a .bytes .now)) (c .if1 .left)
 
@@ -46,22 +46,22 @@ returns-2 c =
     let d = c .before .before in
     let a = d .before .before .before .before .before .before .args in
     let s = store (a .words .now) (a .bytes .now) in
-    let k = d .before .before .channel-at .ensures in
-    let e = ap (λ (x : Channel). x .config) k ∙ config-are s in
+    let k = d .before .before .header-at .ensures in
+    let e = ap (λ (x : SiteHeader). x .config) k ∙ config-are s in
     let o = outside-as s (a .j) k (d .before .outside .ensures) (d .if2 .taken) in
     c .restart2 .ensures
     ∙ ap (λ (f : Config). coreOf (waiting (setupOf f (a .j)) 0 0 0)) e
     ∙ sym (ap (λ (m : Member). coreOf (m .node)) (skip _ _ _ _ (d .before .before .before .if1 .left) (hit _ _ _ o)))
 
-seat-requires : tie.Need-seat-requires
-seat-requires c κs = search needs
+node-index-requires : tie.Need-node-index-requires
+node-index-requires c κs = search needs
 
 core-at-requires : tie.Need-core-at-requires
 core-at-requires c κs =
     let d = c .before .before .before .before in
     let a = d .before .before .before .args in
     let w = long-enough (store (a .words .now) (a .bytes .now)) (d .if1 .left) in
-    (c .seat .ensures .1, w .0, w .1)
+    (c .node-index .ensures .1, w .0, w .1)
 
 returns-3 : tie.Need-returns-3
 returns-3 c =
@@ -69,8 +69,8 @@ returns-3 c =
     let a = d .before .before .before .before .before .before .args in
     let s = store (a .words .now) (a .bytes .now) in
     let w = long-enough s (d .before .before .before .if1 .left) in
-    let o = outside-as s (a .j) (d .before .before .channel-at .ensures) (d .before .outside .ensures) (d .if2 .left) in
-    c .core-at .ensures ∙ ap (coreIn s) (at-seat (configIn s) (a .j) (c .before .seat .ensures .0) o)
+    let o = outside-as s (a .j) (d .before .before .header-at .ensures) (d .before .outside .ensures) (d .if2 .left) in
+    c .core-at .ensures ∙ ap (coreIn s) (at-node-index (configIn s) (a .j) (c .before .node-index .ensures .0) o)
     ∙ sym (ap (λ (m : Member). coreOf (m .node)) (stored-read s (a .j) (w .0) (w .1) o))
 
 pub core-spec : {M : Type 1} → statement M
@@ -80,10 +80,10 @@ core-spec =
     none-requires
     restart-requires
     returns
-    channel-at-requires
+    header-at-requires
     outside-requires
     restart-requires-2
     returns-2
-    seat-requires
+    node-index-requires
     core-at-requires
     returns-3)

@@ -6,13 +6,13 @@ use borrow.Author.Needs.{needs}
 use Rattle.machine.proofs.look.is_live.Statement.{statement}
 use Rattle.machine.proofs.look.is_live.Tie as tie
 
-no-place-requires : tie.Need-no-place-requires
-no-place-requires c κs = search needs
+no-node-requires : tie.Need-no-node-requires
+no-node-requires c κs = search needs
 
 returns : tie.Need-returns
 returns c =
     let a = c .before .before .before .before .args in
-    sym (none-live (store (a .words .now) (a .bytes .now)) (a .j) (sym (c .before .no-place .ensures) ∙ c .if1 .taken))
+    sym (none-live (store (a .words .now) (a .bytes .now)) (a .j) (sym (c .before .no-node .ensures) ∙ c .if1 .taken))
 
 live-requires : tie.Need-live-requires
 live-requires c κs = search needs
@@ -21,8 +21,8 @@ returns-2 : tie.Need-returns-2
 returns-2 c =
     let a = c .before .before .before .before .before .args in
     let s = store (a .words .now) (a .bytes .now) in
-    let h = at-place s (a .j) (sym (c .before .before .no-place .ensures) ∙ c .before .if1 .left) in
+    let h = at-place s (a .j) (sym (c .before .before .no-node .ensures) ∙ c .before .if1 .left) in
     c .live .ensures ∙ sym (live-read s (a .j) (h .0) (h .1 .0) (h .1 .1))
 
 pub is-live-spec : {M : Type 1} → statement M
-is-live-spec = tie.close (tie.spec no-place-requires returns live-requires returns-2)
+is-live-spec = tie.close (tie.spec no-node-requires returns live-requires returns-2)

@@ -2,13 +2,13 @@ use mathlib.Core.Path.{ap, _∙_}
 use Prim.Native.Nat.{ℕ, _+_}
 use lib.ListN.{getD}
 use Rattle.wire.specs.Phases.{phaseOf}
-use Rattle.machine.specs.Layout.{roomAt}
+use Rattle.machine.specs.Layout.{nodeBytesAt}
 use borrow.Author.Needs.{needs}
 use Rattle.machine.proofs.look.phase.Statement.{statement}
 use Rattle.machine.proofs.look.phase.Tie as tie
 
-seat-requires : tie.Need-seat-requires
-seat-requires c κs = search needs
+node-index-requires : tie.Need-node-index-requires
+node-index-requires c κs = search needs
 
 mul-byte : tie.Need-mul-byte
 mul-byte c = search needs
@@ -26,8 +26,8 @@ returns : tie.Need-returns
 returns c =
     let b = c .before .before .before .before .args .bytes .now in
     c .phase-of .ensures ∙ ap phaseOf
-    (c .before .byte .ensures ∙ ap (λ (i : ℕ). getD b (roomAt i + 3) 0) (c .before .before .seat .ensures .0))
+    (c .before .byte .ensures ∙ ap (λ (i : ℕ). getD b (nodeBytesAt i + 3) 0) (c .before .before .node-index .ensures .0))
 
 pub phase-spec : {M : Type 1} → statement M
 phase-spec =
-    tie.close (tie.spec seat-requires mul-byte add-byte byte-requires phase-of-requires returns)
+    tie.close (tie.spec node-index-requires mul-byte add-byte byte-requires phase-of-requires returns)

@@ -1,19 +1,19 @@
 use mathlib.Core.Path.{sym, _∙_}
 use borrow.Author.Needs.{needs}
 use Rattle.node.specs.Figures.{isWaiting}
-use Rattle.site.specs.Members.{seat}
+use Rattle.site.specs.Members.{nodeIndex}
 use Rattle.machine.specs.Layout.{store, upIn, phaseIn}
 use Rattle.machine.proofs.Whole.{at-place, of-live, of-waiting, of-down, none-up, state-read}
 use Rattle.machine.proofs.look.state.Statement.{statement}
 use Rattle.machine.proofs.look.state.Tie as tie
 
-no-place-requires : tie.Need-no-place-requires
-no-place-requires c κs = search needs
+no-node-requires : tie.Need-no-node-requires
+no-node-requires c κs = search needs
 
 returns : tie.Need-returns
 returns c =
     let a = c .before .before .before .before .args in
-    sym (none-up (store (a .words .now) (a .bytes .now)) (a .j) (sym (c .before .no-place .ensures) ∙ c .if1 .taken))
+    sym (none-up (store (a .words .now) (a .bytes .now)) (a .j) (sym (c .before .no-node .ensures) ∙ c .if1 .taken))
 
 live-requires : tie.Need-live-requires
 live-requires c κs = search needs
@@ -23,8 +23,8 @@ returns-2 c =
     let d = c .before .before in
     let a = d .before .before .before .before .args in
     let s = store (a .words .now) (a .bytes .now) in
-    let h = at-place s (a .j) (sym (d .before .no-place .ensures) ∙ d .if1 .left) in
-    of-live (upIn (a .bytes .now) (seat (a .j))) (isWaiting (phaseIn (a .bytes .now) (seat (a .j))))
+    let h = at-place s (a .j) (sym (d .before .no-node .ensures) ∙ d .if1 .left) in
+    of-live (upIn (a .bytes .now) (nodeIndex (a .j))) (isWaiting (phaseIn (a .bytes .now) (nodeIndex (a .j))))
     (sym (c .before .live .ensures) ∙ c .if2 .taken) ∙ sym (state-read s (a .j) (h .0) (h .1 .0) (h .1 .1))
 
 up-requires : tie.Need-up-requires
@@ -35,8 +35,8 @@ returns-3 c =
     let d = c .before .before .before .before in
     let a = d .before .before .before .before .args in
     let s = store (a .words .now) (a .bytes .now) in
-    let h = at-place s (a .j) (sym (d .before .no-place .ensures) ∙ d .if1 .left) in
-    of-waiting (upIn (a .bytes .now) (seat (a .j))) (isWaiting (phaseIn (a .bytes .now) (seat (a .j))))
+    let h = at-place s (a .j) (sym (d .before .no-node .ensures) ∙ d .if1 .left) in
+    of-waiting (upIn (a .bytes .now) (nodeIndex (a .j))) (isWaiting (phaseIn (a .bytes .now) (nodeIndex (a .j))))
     (sym (c .before .before .before .live .ensures) ∙ c .before .before .if2 .left) (sym (c .before .up .ensures) ∙ c .if3 .taken)
     ∙ sym (state-read s (a .j) (h .0) (h .1 .0) (h .1 .1))
 
@@ -45,11 +45,11 @@ returns-4 c =
     let d = c .before .before .before .before in
     let a = d .before .before .before .before .args in
     let s = store (a .words .now) (a .bytes .now) in
-    let h = at-place s (a .j) (sym (d .before .no-place .ensures) ∙ d .if1 .left) in
-    of-down (upIn (a .bytes .now) (seat (a .j))) (isWaiting (phaseIn (a .bytes .now) (seat (a .j))))
+    let h = at-place s (a .j) (sym (d .before .no-node .ensures) ∙ d .if1 .left) in
+    of-down (upIn (a .bytes .now) (nodeIndex (a .j))) (isWaiting (phaseIn (a .bytes .now) (nodeIndex (a .j))))
     (sym (c .before .up .ensures) ∙ c .if3 .left) ∙ sym (state-read s (a .j) (h .0) (h .1 .0) (h .1 .1))
 
 pub state-spec : {M : Type 1} → statement M
 state-spec =
     tie.close
-    (tie.spec no-place-requires returns live-requires returns-2 up-requires returns-3 returns-4)
+    (tie.spec no-node-requires returns live-requires returns-2 up-requires returns-3 returns-4)

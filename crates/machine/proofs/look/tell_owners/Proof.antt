@@ -8,20 +8,20 @@ use Rattle.masks.specs.Bytes.{masksSize}
 use Rattle.machine.specs.Layout.{store, configIn, schedulesAt}
 use Rattle.machine.specs.Loading.{ownersTold}
 use Rattle.machine.proofs.Owned.{told-as}
-use Rattle.machine.proofs.Seats.{at-seat}
+use Rattle.machine.proofs.Seats.{at-node-index}
 use Rattle.machine.proofs.Whole.{at-place, schedule-read}
 use Rattle.machine.proofs.look.tell_owners.Statement.{statement}
 use Rattle.machine.proofs.look.tell_owners.Tie as tie
 
-no-place-requires : tie.Need-no-place-requires
-no-place-requires c κs = search needs
+no-node-requires : tie.Need-no-node-requires
+no-node-requires c κs = search needs
 
 returns : tie.Need-returns
 unfolding ownersTold
-returns c = sym (hit _ _ _ (sym (c .before .no-place .ensures) ∙ c .if1 .taken))
+returns c = sym (hit _ _ _ (sym (c .before .no-node .ensures) ∙ c .if1 .taken))
 
-seat-requires : tie.Need-seat-requires
-seat-requires c κs = search needs
+node-index-requires : tie.Need-node-index-requires
+node-index-requires c κs = search needs
 
 mul-tell : tie.Need-mul-tell
 mul-tell c = search needs
@@ -41,15 +41,15 @@ returns-2 c =
     let d = c .before .before .before .before in
     let a = d .before .before .before .before .before .before .args in
     let s = store (a .words .now) (a .bytes .now) in
-    let p = sym (d .before .before .no-place .ensures) ∙ d .before .if1 .left in
+    let p = sym (d .before .before .no-node .ensures) ∙ d .before .if1 .left in
     let h = at-place s (a .j) p in
-    let i = d .seat .result in
-    let room : schedulesAt i + masksSize ≤ length (a .bytes .now) = omega (arith, d .seat .ensures .1, h .1 .0) in
-    let e = at-seat (configIn s) (a .j) (d .seat .ensures .0) (h .1 .1) in
+    let i = d .node-index .result in
+    let room : schedulesAt i + masksSize ≤ length (a .bytes .now) = omega (arith, d .node-index .ensures .1, h .1 .0) in
+    let e = at-node-index (configIn s) (a .j) (d .node-index .ensures .0) (h .1 .1) in
     c .before .before .tell .ensures
     ∙ told-as (a .bytes .now) (schedulesAt i) (a .out .now) (a .to) room (schedule-read s (a .j) (h .0) (h .1 .0) (h .1 .1) i e)
     ∙ sym (skip _ _ _ _ p refl)
 
 pub tell-owners-spec : {M : Type 1} → statement M
 tell-owners-spec =
-    tie.close (tie.spec no-place-requires returns seat-requires mul-tell add-tell tell-requires same-length returns-2)
+    tie.close (tie.spec no-node-requires returns node-index-requires mul-tell add-tell tell-requires same-length returns-2)

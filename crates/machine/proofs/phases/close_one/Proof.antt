@@ -69,7 +69,8 @@ close-requires c κs = search needs
 
 put-core-requires : tie.Need-put-core-requires
 put-core-requires c κs =
-    let p = c .before .before .before .before .before .before .before .before .before .before .before .before .before .before .before .pre in
+    let p = c .before .before .before .before .before .before .before .before .before .before .before .before .before
+    .before .before .pre in
     (p .0, p .1, p .2)
 
 move-schedules-requires : tie.Need-move-schedules-requires

@@ -56,7 +56,8 @@ returns-2 c =
     let live = sym (c .before .before .before .before .before .before .before .is-up .ensures)
     ∙ not-false (c .before .before .before .before .before .before .before .is-up .result)
     (c .before .before .before .before .before .before .if1 .left) in
-    let answer = c .before .before .end-answer .ensures ∙ ap (λ (x : Core). mayEnd (x .phase)) (c .before .before .before .core-with .ensures)
+    let answer = c .before .before .end-answer .ensures
+    ∙ ap (λ (x : Core). mayEnd (x .phase)) (c .before .before .before .core-with .ensures)
     ∙ sym (ends-phase n) in
     let no : isDone (endAnswer n) ≡ false = ap isDone (sym answer) ∙ sym (c .before .is-done .ensures)
     ∙ not-true (c .before .is-done .result) (c .if2 .taken) in
@@ -68,7 +69,8 @@ end-requires c κs = search needs
 
 put-core-requires : tie.Need-put-core-requires
 put-core-requires c κs =
-    let p = c .before .before .before .before .before .before .before .before .before .before .before .before .before .before .before .pre in
+    let p = c .before .before .before .before .before .before .before .before .before .before .before .before .before
+    .before .before .pre in
     (p .0, p .1, p .2)
 
 move-schedules-requires : tie.Need-move-schedules-requires

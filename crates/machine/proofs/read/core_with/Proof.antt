@@ -147,8 +147,8 @@ returns c =
         highest = n .round .highest;
         heard = n .round .heard;
       };
-      counts = (c12 .before .short-at2 .ensures) k;
-      met = n .epoch .met;
+      counters = (c12 .before .short-at2 .ensures) k;
+      interactions = n .epoch .interactions;
       place = n .epoch .place;
       updated = n .epoch .updated;
       phase = (c .phase-of .ensures) k;

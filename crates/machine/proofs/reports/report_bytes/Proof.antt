@@ -6,13 +6,13 @@ use lib.ListN.{length, drop, getD}
 use borrow.Author.Needs.{needs}
 use Rattle.lists.specs.All.{tab}
 use Rattle.lists.proofs.Laws.{fill-none, fill-more, fill-end}
-use Rattle.machine.specs.reports.Reports.{untold, toldByte, reportBytes}
-use Rattle.machine.specs.declared.Told.{Told}
+use Rattle.machine.specs.reports.Reports.{noNodeReport, reportByte, reportBytes}
+use Rattle.machine.specs.declared.NodeReport.{NodeReport}
 use Rattle.machine.proofs.reports.report_bytes.Statement.{statement}
 use Rattle.machine.proofs.reports.report_bytes.Tie as tie
 
-abbrev each : List Told → ℕ → ℕ
-each told k = toldByte (getD told (k / 2) untold) (k % 2)
+abbrev each : List NodeReport → ℕ → ℕ
+each told k = reportByte (getD told (k / 2) noNodeReport) (k % 2)
 
 abbrev Inv-loop : tie.InvT-loop
 Inv-loop told l₀ k₀ l k = (k ≤ 64) × (length l₀ ≡ 64) × (l ≡ tab k (each told) ++ drop k l₀)
@@ -29,8 +29,8 @@ mul-t c = omega arith
 array-copy-out-t : tie.Need-array-copy-out-t Inv-loop μ-loop
 array-copy-out-t c = omega arith
 
-told-byte-requires : tie.Need-told-byte-requires Inv-loop μ-loop
-told-byte-requires c κs = search needs
+report-byte-requires : tie.Need-report-byte-requires Inv-loop μ-loop
+report-byte-requires c κs = search needs
 
 array-write-l : tie.Need-array-write-l Inv-loop μ-loop
 array-write-l c = omega arith
@@ -47,7 +47,7 @@ loop-again c =
       omega arith,
       l .inv .1,
       fill-more _ (each (c .before .before .before .before .before .args .r .told)) _ _ _ (omega arith) (l .inv .2)
-          (c .told-byte .ensures),
+          (c .report-byte .ensures),
     )
 
 returns : tie.Need-returns Inv-loop μ-loop
@@ -65,7 +65,7 @@ report-bytes-spec =
     loop-holds
     mul-t
     array-copy-out-t
-    told-byte-requires
+    report-byte-requires
     array-write-l
     add-k
     loop-less

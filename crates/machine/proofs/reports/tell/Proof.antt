@@ -9,12 +9,12 @@ use Rattle.node.specs.declared.Ground.{Ground}
 use Rattle.node.proofs.Bare.{ground-bare}
 use Rattle.machine.specs.Layout.{store}
 use Rattle.machine.specs.Loading.{memberRead}
-use Rattle.machine.specs.reports.Reports.{toldBy}
-use Rattle.machine.specs.declared.Told.{Told}
+use Rattle.machine.specs.reports.Reports.{memberReport}
+use Rattle.machine.specs.declared.NodeReport.{NodeReport}
 use Rattle.machine.proofs.reports.tell.Statement.{statement}
 use Rattle.machine.proofs.reports.tell.Tie as tie
 
-abbrev telling : Ground → Told
+abbrev telling : Ground → NodeReport
 telling g = record { live = true; ground = g }
 
 is-live-requires : tie.Need-is-live-requires
@@ -27,7 +27,7 @@ ground-requires : tie.Need-ground-requires
 ground-requires c κs = search needs
 
 returns : tie.Need-returns
-unfolding toldBy
+unfolding memberReport
 returns c =
     let a = c .before .before .before .before .before .before .args in
     let m = memberRead (store (a .words .now) (a .bytes .now)) (a .j) in
@@ -38,7 +38,7 @@ nothing-requires : tie.Need-nothing-requires
 nothing-requires c κs = search needs
 
 returns-2 : tie.Need-returns-2
-unfolding toldBy
+unfolding memberReport
 returns-2 c = c .nothing .ensures ∙ sym (skip _ _ _ _ (sym (c .before .before .is-live .ensures) ∙ c .before .if1 .left) refl)
 
 pub tell-spec : {M : Type 1} → statement M

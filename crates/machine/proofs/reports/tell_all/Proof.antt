@@ -11,16 +11,16 @@ use Rattle.site.specs.Members.{nobody}
 use Rattle.machine.specs.Layout.{Store, store, siteIn}
 use Rattle.machine.proofs.Whole.{long-enough}
 use Rattle.machine.proofs.Whole.{as-member}
-use Rattle.machine.specs.reports.Reports.{toldBy, reportOf}
+use Rattle.machine.specs.reports.Reports.{memberReport, reportOf}
 use Rattle.machine.specs.declared.Report.{Report}
-use Rattle.machine.specs.declared.Told.{Told}
+use Rattle.machine.specs.declared.NodeReport.{NodeReport}
 use Rattle.machine.proofs.reports.tell_all.Statement.{statement}
 use Rattle.machine.proofs.reports.tell_all.Tie as tie
 
-abbrev each : Store → ℕ → Told
-each s i = toldBy true (getD (siteIn s .members) i nobody)
+abbrev each : Store → ℕ → NodeReport
+each s i = memberReport true (getD (siteIn s .members) i nobody)
 
-abbrev all : List Told → Report
+abbrev all : List NodeReport → Report
 all ts = record { told = ts }
 
 abbrev Inv-loop : tie.InvT-loop
@@ -66,7 +66,7 @@ loop-again c =
     let h = long-enough s (l .before .before .before .before .pre) in
     let z : i + 1 - 1 ≡ i = omega arith in
     let m = as-member s (i + 1) (h .0) (h .1) (omega arith) (omega arith) ∙ ap (λ (k : ℕ). getD (siteIn s .members) k nobody) z in
-    (omega arith, l .loop .inv .1, fill-more _ (each s) _ _ _ (omega arith) (l .loop .inv .2) (c .tell .ensures ∙ ap (toldBy true) m))
+    (omega arith, l .loop .inv .1, fill-more _ (each s) _ _ _ (omega arith) (l .loop .inv .2) (c .tell .ensures ∙ ap (memberReport true) m))
 
 returns : tie.Need-returns Inv-loop μ-loop
 unfolding reportOf

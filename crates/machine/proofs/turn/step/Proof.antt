@@ -7,7 +7,7 @@ use Rattle.node.specs.Answers.{number, isDone}
 use Rattle.windows.specs.Copies.{windowsIn}
 use Rattle.machine.specs.Layout.{store}
 use Rattle.machine.specs.turn.Inner.{objection}
-use Rattle.machine.specs.turn.Stored.{keptIn, tooFew}
+use Rattle.machine.specs.turn.Stored.{keptIn, lentTooShort}
 use Rattle.machine.proofs.turn.Laws.{few-short, no-room, refuses, as-done}
 use Rattle.machine.proofs.turn.step.Statement.{statement}
 use Rattle.machine.proofs.turn.step.Tie as tie
@@ -73,7 +73,7 @@ returns-2 c =
     let s = store (a .words .now) (a .bytes .now) in
     let o = c .before .before .before .before .before .before .before .before .objection in
     let d = c .before .before .before .before .before .before .before .is-done in
-    let f : tooFew s (a .area .now) (a .out .now) ≡ false =
+    let f : lentTooShort s (a .area .now) (a .out .now) ≡ false =
     sym (c .before .before .before .before .before .before .before .before .before .before .before .before .too-few .ensures)
     ∙ c .before .before .before .before .before .before .before .before .before .before .before .if1 .left in
     refuses s (a .day) (a .area .now) (windowsIn (a .w .now)) (a .t) (a .out .now) (a .e) f (o .ensures)
@@ -125,7 +125,7 @@ returns-3 c =
     .before .before .before .before .before .before .before .before .before .objection in
     let d = c .before .before .before .before .before .before .before .before .before .before .before .before .before .before .before
     .before .before .before .before .before .before .before .before .is-done in
-    let f : tooFew s (a .area .now) (a .out .now) ≡ false =
+    let f : lentTooShort s (a .area .now) (a .out .now) ≡ false =
     sym (c .before .before .before .before .before .before .before .before .before .before .before .before .before .before .before
     .before .before .before .before .before .before .before .before .before .before .before .before .before .too-few .ensures)
     ∙ c .before .before .before .before .before .before .before .before .before .before .before .before .before .before .before

@@ -8,14 +8,14 @@ use borrow.Author.Needs.{needs}
 use Rattle.machine.proofs.turn.too_few.Statement.{statement}
 use Rattle.machine.proofs.turn.too_few.Tie as tie
 
-no-place-requires : tie.Need-no-place-requires
-no-place-requires c κs = search needs
+report-too-short-requires : tie.Need-report-too-short-requires
+report-too-short-requires c κs = search needs
 
 returns : tie.Need-returns
 returns c =
     let a = c .before .before .before .before .before .args in
     ap (λ (b : Bool). tooShort (store (a .words .now) (a .bytes .now)) || (ltb (length (a .area .now)) areaSize || b))
-    (c .no-place .ensures)
+    (c .report-too-short .ensures)
 
 pub too-few-spec : {M : Type 1} → statement M
-too-few-spec = tie.close (tie.spec no-place-requires returns)
+too-few-spec = tie.close (tie.spec report-too-short-requires returns)

@@ -1,5 +1,5 @@
 use Rattle.machine.proofs.Writes.{three}
-use Rattle.machine.specs.Layout.{frontOf, roomAt}
+use Rattle.machine.specs.Layout.{storedFront, nodeBytesAt}
 use Rattle.lists.specs.Bytes.{written}
 use mir.Val.{boolByte}
 use lib.ListN.{length}
@@ -45,15 +45,15 @@ same-length : tie.Need-same-length
 same-length c = search needs
 
 returns : tie.Need-returns
-unfolding frontOf
+unfolding storedFront
 returns c =
     let d = c .before .before .before .before .before .before .before .before .before .before .before .before .before .before .before
     .before .before .before in
     let a = d .args in
     let k = long-known d in
-    three (a .bytes .now) _ _ _ (roomAt (a .i)) (roomAt (a .i) + 5) (roomAt (a .i) + 37)
+    three (a .bytes .now) _ _ _ (nodeBytesAt (a .i)) (nodeBytesAt (a .i) + 5) (nodeBytesAt (a .i) + 37)
     (c .before .before .before .before .before .before .before .before .before .before .put-small .ensures
-    ∙ ap (λ (x : ℕ). written (a .bytes .now) (roomAt (a .i))
+    ∙ ap (λ (x : ℕ). written (a .bytes .now) (nodeBytesAt (a .i))
     (boolByte (a .up) ∷ a .c .demand ∷ a .c .request ∷ x ∷ boolByte (a .c .updated) ∷ []))
     (c .before .before .before .before .before .before .before .before .before .before .before .before .before .phase-byte .ensures))
     (c .before .before .before .before .before .before .put-short .ensures) (c .before .before .put-short2 .ensures) refl (omega arith)

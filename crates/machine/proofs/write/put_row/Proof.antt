@@ -1,4 +1,4 @@
-use Rattle.machine.specs.Layout.{rowOf}
+use Rattle.machine.specs.Layout.{nodeWords}
 use Prim.Native.Nat.{_-_}
 use borrow.Author.Needs.{needs}
 use Rattle.machine.proofs.write.put_row.Statement.{statement}
@@ -14,7 +14,7 @@ same-length : tie.Need-same-length
 same-length c = search needs
 
 returns : tie.Need-returns
-unfolding rowOf
+unfolding nodeWords
 returns c = c .before .before .put-eight .ensures
 
 pub put-row-spec : {M : Type 1} → statement M

@@ -13,7 +13,7 @@ use Rattle.lists.proofs.Laws.{length-tab}
 use Rattle.masks.specs.Slots.{lowOf, highOf, first, holds}
 use Rattle.masks.specs.Bytes.{masksSize, masksIn}
 use Rattle.masks.specs.Air.{ownersTo}
-use Rattle.masks.specs.Inner.{given}
+use Rattle.masks.specs.Inner.{slotsGiven}
 use Rattle.masks.proofs.First.{first-zero}
 use Rattle.masks.proofs.Turns.{tab-zeros, slotIn, owners-turn}
 use Rattle.masks.proofs.Rows.{low-read, high-read}
@@ -112,8 +112,8 @@ loop-again c =
     ∙ high-read s (d .args .at) (l .i) k in
     let f : Fits w64 (c9 .long-word .result) = search needs in
     let z = owners-turn (m .low) (m .high) (l .i) _ _ _ (subst (λ (w : ℕ). w < 2 ^ 64) x (f .fits)) (l .inv .4)
-    (c6 .give .ensures ∙ ap (λ (w : ℕ). given (l .owners) 0 w (l .i + 1)) x)
-    (c .before .before .give2 .ensures ∙ ap (λ (w : ℕ). given (c6 .give .last .0) 64 w (l .i + 1)) y) in
+    (c6 .give .ensures ∙ ap (λ (w : ℕ). slotsGiven (l .owners) 0 w (l .i + 1)) x)
+    (c .before .before .give2 .ensures ∙ ap (λ (w : ℕ). slotsGiven (c6 .give .last .0) 64 w (l .i + 1)) y) in
     (omega arith, l .inv .1, l .inv .2, ap length z ∙ length-tab 80 _, z)
 
 same-length : tie.Need-same-length Inv-loop μ-loop

@@ -8,7 +8,7 @@ use lib.ListN.{length, getD}
 use Rattle.lists.proofs.Chain.{not-tried}
 use Rattle.masks.specs.Slots.{Masks}
 use Rattle.masks.specs.Slots.{fromWords, countOf}
-use Rattle.masks.specs.Bytes.{bytes64, bytes16, rows, masksSize, masksBytes, firstOf}
+use Rattle.masks.specs.Bytes.{bytes64, bytes16, rows, masksSize, masksBytes, firstWords}
 use Rattle.lists.specs.Bytes.{written}
 use Rattle.masks.proofs.Moves.{first-min}
 use Rattle.masks.proofs.Rows.{entries, length-masks, masks-put}
@@ -27,7 +27,7 @@ same-length c = search needs
 returns : tie.Need-returns
 returns c =
     let a = c .before .before .before .before .args in
-    let m : Masks = fromWords (firstOf (a .n) (a .low .now)) (firstOf (a .n) (a .high .now)) (a .t6) in
+    let m : Masks = fromWords (firstWords (a .n) (a .low .now)) (firstWords (a .n) (a .high .now)) (a .t6) in
     let h : length (a .out .now) < a .at + masksSize = leb-false _ _ (sym (c .before .has-room .ensures) ∙ not-true _ (c .if1 .taken)) in
     not-tried (a .out .now) (masksBytes m) (a .at) (omega (arith, h, length-masks m))
 
@@ -70,8 +70,8 @@ returns-2 c =
     let d = c13 .before .before .before .before in
     let n = d .args .n in
     let t = c11 .before .before .nodes-to in
-    let cut : (l : List ℕ) → firstOf (t .result) l ≡ firstOf n l = λ l. ap (λ (x : ℕ). firstOf x l) (t .ensures) ∙ first-min n l in
-    let m : Masks = fromWords (firstOf n (d .args .low .now)) (firstOf n (d .args .high .now)) (d .args .t6) in
+    let cut : (l : List ℕ) → firstWords (t .result) l ≡ firstWords n l = λ l. ap (λ (x : ℕ). firstWords x l) (t .ensures) ∙ first-min n l in
+    let m : Masks = fromWords (firstWords n (d .args .low .now)) (firstWords n (d .args .high .now)) (d .args .t6) in
     masks-put m (d .args .out .now) (d .args .at) (room c13) (sym (entries (d .args .t6) (countOf m) (long-counts d) (λ i k. refl)))
     (c11 .put-first .ensures ∙ ap (λ (l : List ℕ). written (d .args .out .now) (d .args .at) (rows 32 (λ i. bytes64 (getD l i 0))))
     (cut (d .args .low .now)))

@@ -5,7 +5,7 @@ use mathlib.Core.Path.{ap₂}
 use mathlib.Core.Bool.{true}
 use Rattle.lists.specs.All.{allBelow}
 use Rattle.lists.proofs.Laws.{all-none}
-use Rattle.masks.specs.Slots.{tidyAt}
+use Rattle.masks.specs.Slots.{wellFormedAt}
 use Rattle.masks.specs.Bytes.{masksIn}
 use Rattle.masks.specs.Inner.{taken, endsBy}
 use Rattle.masks.proofs.Taken.{taken-none, taken-turn, tidy-turn}
@@ -20,7 +20,7 @@ use Rattle.masks.proofs.inplace.rows_fit.Tie as tie
 abbrev Inv-loop : tie.InvT-loop
 Inv-loop s from top k taken-low₀ taken-high₀ i₀ taken-low taken-high i =
     (i ≤ top) × (taken-low ≡ taken (masksIn s from .low) i) × (taken-high ≡ taken (masksIn s from .high) i)
-    × (true ≡ allBelow i (tidyAt (masksIn s from)))
+    × (true ≡ allBelow i (wellFormedAt (masksIn s from)))
 
 abbrev μ-loop : tie.MeasureT-loop
 μ-loop s from top k taken-low₀ taken-high₀ i₀ taken-low taken-high i = top - i
@@ -105,7 +105,7 @@ returns-2 c =
     let l = c .before .before .loop in
     let m = masksIn (d .args .s .now) (d .args .from) in
     let e : l .i ≡ d .args .top = omega arith in
-    both (l .inv .3 ∙ ap (λ (x : ℕ). allBelow x (tidyAt m)) e)
+    both (l .inv .3 ∙ ap (λ (x : ℕ). allBelow x (wellFormedAt m)) e)
     (c .ends-by .ensures ∙ ap₂ (λ (x y : ℕ). endsBy x y (d .args .k)) (l .inv .1 ∙ ap (taken (m .low)) e)
     (l .inv .2 ∙ ap (taken (m .high)) e))
 

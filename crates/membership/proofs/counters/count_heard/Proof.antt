@@ -13,10 +13,10 @@ use Rattle.membership.proofs.counters.count_heard.Statement.{statement}
 use Rattle.membership.proofs.counters.count_heard.Tie as tie
 
 abbrev Inv-loop : tie.InvT-loop
-Inv-loop heard counts l₀ i₀ l i = (i ≤ 32) × (l ≡ tab i (λ j. plus (getD counts j 0) (hasBit heard j)) ++ drop i l₀)
+Inv-loop heard counters l₀ i₀ l i = (i ≤ 32) × (l ≡ tab i (λ j. plus (getD counters j 0) (hasBit heard j)) ++ drop i l₀)
 
 abbrev μ-loop : tie.MeasureT-loop
-μ-loop heard counts l₀ i₀ l i = 32 - i
+μ-loop heard counters l₀ i₀ l i = 32 - i
 
 returns : tie.Need-returns Inv-loop μ-loop
 returns c =

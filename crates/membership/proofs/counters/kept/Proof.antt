@@ -12,10 +12,10 @@ use Rattle.membership.proofs.counters.kept.Statement.{statement}
 use Rattle.membership.proofs.counters.kept.Tie as tie
 
 abbrev Inv-loop : tie.InvT-loop
-Inv-loop none counts l₀ i₀ l i = (i ≤ 32) × (l ≡ tab i (λ j. cond none 0 (getD counts j 0)) ++ drop i l₀)
+Inv-loop none counters l₀ i₀ l i = (i ≤ 32) × (l ≡ tab i (λ j. cond none 0 (getD counters j 0)) ++ drop i l₀)
 
 abbrev μ-loop : tie.MeasureT-loop
-μ-loop none counts l₀ i₀ l i = 32 - i
+μ-loop none counters l₀ i₀ l i = 32 - i
 
 loop-holds : tie.Need-loop-holds Inv-loop μ-loop
 loop-holds c = (omega arith, fill-none _ _)

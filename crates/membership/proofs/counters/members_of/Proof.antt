@@ -16,10 +16,10 @@ use Rattle.membership.proofs.counters.members_of.Statement.{statement}
 use Rattle.membership.proofs.counters.members_of.Tie as tie
 
 abbrev Inv-loop : tie.InvT-loop
-Inv-loop node heard counts w₀ i₀ w i = (i ≤ 32) × (w ≡ wordOf i (λ j. leb heard (getD counts j 0) || eqb (j + 1) node))
+Inv-loop node heard counters w₀ i₀ w i = (i ≤ 32) × (w ≡ wordOf i (λ j. leb heard (getD counters j 0) || eqb (j + 1) node))
 
 abbrev μ-loop : tie.MeasureT-loop
-μ-loop node heard counts w₀ i₀ w i = 32 - i
+μ-loop node heard counters w₀ i₀ w i = 32 - i
 
 loop-holds : tie.Need-loop-holds Inv-loop μ-loop
 unfolding wordOf

@@ -3,14 +3,14 @@ use Prim.Native.Nat.{ℕ, _≤_, _-_}
 use native.Mathlib.Omega.{arith}
 use borrow.Author.Needs.{needs}
 use Rattle.words.proofs.Tests.{both}
-use Rattle.membership.specs.requests.Requests.{lacks, firstOf, lowestMissing}
+use Rattle.membership.specs.requests.Requests.{lacks, firstWith, lowestMissing}
 use Rattle.membership.proofs.requests.Laws.{first-here, first-behind, first-none}
 use Rattle.membership.proofs.requests.lowest_missing.Statement.{statement}
 use Rattle.membership.proofs.requests.lowest_missing.Tie as tie
 
 -- No node before the i-th is missing.
 abbrev Inv-loop : tie.InvT-loop
-Inv-loop w l i₀ i = (i ≤ 32) × (lowestMissing w l ≡ firstOf (32 - i) i (lacks w l))
+Inv-loop w l i₀ i = (i ≤ 32) × (lowestMissing w l ≡ firstWith (32 - i) i (lacks w l))
 
 abbrev μ-loop : tie.MeasureT-loop
 μ-loop w l i₀ i = 32 - i
@@ -53,7 +53,7 @@ loop-again c =
 returns-2 : tie.Need-returns-2 Inv-loop μ-loop
 returns-2 c =
     let z : 32 - c .before .loop .i ≡ 0 = omega arith in
-    sym (c .before .loop .inv .1 ∙ ap (λ (k : ℕ). firstOf k (c .before .loop .i)
+    sym (c .before .loop .inv .1 ∙ ap (λ (k : ℕ). firstWith k (c .before .loop .i)
     (lacks (c .before .before .args .w) (c .before .before .args .t2))) z ∙ first-none _ _)
 
 pub lowest-missing-spec : {M : Type 1} → statement M

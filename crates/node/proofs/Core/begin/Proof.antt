@@ -22,8 +22,8 @@ returns c =
       phase = Negotiation;
       flags = a .flags;
       round = (c .opening .ensures) i;
-      counts = replicate 32 0;
-      met = 0;
+      counters = replicate 32 0;
+      interactions = 0;
       place = 0;
       updated = false;
     }

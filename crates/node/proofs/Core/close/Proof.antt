@@ -64,9 +64,9 @@ returns c =
       phase = Distribution (now i || again i);
       flags = n .flags;
       round = (c .before .before .before .no-round .ensures) i;
-      counts =
+      counters =
           (c .before .before .count-heard .ensures) i;
-      met = n .met;
+      interactions = n .interactions;
       place = n .place;
       updated = updated i && not (now i);
     }) ∙ closed-as n

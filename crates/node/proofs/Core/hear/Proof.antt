@@ -28,9 +28,9 @@ returns c =
       request = n .request;
       flags = n .flags;
       round = (c .before .join .ensures) i;
-      counts = n .counts;
-      met =
-          Bits.bitOr (n .met) ((c .before .before .before .before .requesters .ensures) i);
+      counters = n .counters;
+      interactions =
+          Bits.bitOr (n .interactions) ((c .before .before .before .before .requesters .ensures) i);
       place = n .place;
       updated = n .updated;
       phase =
@@ -51,8 +51,8 @@ returns-2 c =
       request = n .request;
       flags = n .flags;
       round = (c .note .ensures) i;
-      counts = n .counts;
-      met = n .met;
+      counters = n .counters;
+      interactions = n .interactions;
       place = n .place;
       updated = n .updated;
       phase = n .phase;

@@ -21,8 +21,8 @@ returns c =
       phase = Waiting;
       flags = a .flags;
       round = (c .no-round .ensures) i;
-      counts = replicate 32 0;
-      met = 0;
+      counters = replicate 32 0;
+      interactions = 0;
       place = a .place;
       updated = false;
     }

@@ -29,8 +29,8 @@ returns c =
         request = (c .before .before .before .request-at .ensures) i;
         flags = n .flags;
         round = n .round;
-        counts = n .counts;
-        met =
+        counters = n .counters;
+        interactions =
             (c .before .all .ensures) i;
         place = n .place;
         updated = n .updated && eqb (n .version) v;

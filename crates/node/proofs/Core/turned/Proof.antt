@@ -56,8 +56,8 @@ returns c =
     let request = c .before .before .before .before .before .before .request-at .ensures ∙ ap (coreRequest n) version in
     let round = c .before .before .before .before .before .opening .ensures
     ∙ (λ i. opened (n .setup .node) (version i) (flags i) (request i)) in
-    let counts = c .before .before .before .before .kept .ensures ∙ ap (λ (t : Bool). cond t (replicate 32 0) (n .counts)) last in
-    let met = c .before .before .before .left2 .ensures ∙ ap (λ (t : Bool). cond t 0 (n .met)) last in
+    let counters = c .before .before .before .before .kept .ensures ∙ ap (λ (t : Bool). cond t (replicate 32 0) (n .counters)) last in
+    let interactions = c .before .before .before .left2 .ensures ∙ ap (λ (t : Bool). cond t 0 (n .interactions)) last in
     let place = c .before .before .place-after .ensures ∙ ap (λ (t : Bool). cond t 0 (n .place + 1)) last in
     let change = c .before .end-move .ensures ∙ ap₂ endMoveBy last expired
     ∙ turn-move (isLast (n .setup .config) (n .place)) (expires (bare n)) in
@@ -68,8 +68,8 @@ returns c =
       request = request i;
       flags = flags i;
       round = round i;
-      counts = counts i;
-      met = met i;
+      counters = counters i;
+      interactions = interactions i;
       place = place i;
       updated = n .updated && not (last i);
       phase = Negotiation;

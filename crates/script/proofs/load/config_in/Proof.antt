@@ -1,5 +1,5 @@
 use mathlib.Core.Path.{sym, ap, _∙_}
-use Rattle.script.specs.load.Opening.{configIn}
+use Rattle.script.specs.load.Opening.{configOfFive}
 use borrow.Author.Needs.{needs}
 use Rattle.script.proofs.load.config_in.Statement.{statement}
 use Rattle.script.proofs.load.config_in.Tie as tie
@@ -14,7 +14,7 @@ none-requires : tie.Need-none-requires
 none-requires c κs = search needs
 
 returns : tie.Need-returns
-returns c = c .none .ensures ∙ sym (ap configIn (c .before .enum-told .given .1))
+returns c = c .none .ensures ∙ sym (ap configOfFive (c .before .enum-told .given .1))
 
 returns-2 : tie.Need-returns-2
 returns-2 c = rw (c .before .x .given .1)

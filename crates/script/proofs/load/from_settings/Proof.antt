@@ -4,9 +4,9 @@ use Prim.Native.Nat.{ℕ}
 use Rattle.node.specs.Answers.{isDone}
 use Rattle.node.specs.declared.Answer.{Answer}
 use Rattle.node.specs.declared.Config.{Config}
-use Rattle.script.specs.declared.Opened.{Opened}
+use Rattle.script.specs.declared.ScriptHead.{ScriptHead}
 use Rattle.node.specs.declared.Answer.the-variants.{BadNames, OutOfRange}
-use Rattle.script.specs.load.Opening.{Reading, refused, configIn, settingsLine, then, configOf, refusedAt}
+use Rattle.script.specs.load.Opening.{Reading, refused, configOfFive, settingsLine, then, configOf, refusedAt}
 use Rattle.script.specs.load.Inner.{fromTable, Reads}
 use Rattle.script.proofs.lines.Lines.{whole, on-none, on-open}
 use Rattle.script.proofs.load.Laws.{reads-refused, reads-same, reads-config, then-refused, then-got, settings-whole, limits}
@@ -78,7 +78,7 @@ returns c =
     let c4 = c .before .before .before .before in
     let c7 = c4 .before .before .before in
     let w = whole _ _ _ (sym (c7 .before .before .next-line .ensures) ∙ c7 .l .given .1) in
-    let e = settings-whole 2 true _ w (c .before .before .before .config-in .ensures ∙ ap configIn (c4 .five-numbers .ensures))
+    let e = settings-whole 2 true _ w (c .before .before .before .config-in .ensures ∙ ap configOfFive (c4 .five-numbers .ensures))
     (sym (c .before .before .config-ok .ensures) ∙ c .before .if1 .taken) in
     reads-config (ap configOf e) (reads-same (then-got fromTable _ _ e) (c .from-table .ensures))
 
@@ -89,7 +89,7 @@ refuse-requires-3 : tie.Need-refuse-requires-3
 refuse-requires-3 c κs = search needs
 
 -- a refusal without figures
-without : {s : List ℕ} {f : Config} {r : Opened} {x : Reading Config} (a : Answer) → isDone a ≡ false → x ≡ refused 2 a → f ≡ noConfig
+without : {s : List ℕ} {f : Config} {r : ScriptHead} {x : Reading Config} (a : Answer) → isDone a ≡ false → x ≡ refused 2 a → f ≡ noConfig
     → r ≡ refusedAt 2 a f
     → Reads s (configOf x) r (then x fromTable)
 without a d e z h = reads-config (ap configOf e) (reads-refused _ a d (then-refused fromTable _ _ e) (h ∙ ap (refusedAt 2 a) z))
@@ -115,7 +115,7 @@ returns-4 c =
     let c7 = c4 .before .before .before in
     let w = whole _ _ _ (sym (c7 .before .before .next-line .ensures) ∙ c7 .l .given .1) in
     without OutOfRange refl
-    (settings-whole 2 false _ w (d .before .before .before .config-in .ensures ∙ ap configIn (c4 .five-numbers .ensures))
+    (settings-whole 2 false _ w (d .before .before .before .config-in .ensures ∙ ap configOfFive (c4 .five-numbers .ensures))
     (sym (d .before .before .config-ok .ensures) ∙ d .before .if1 .left))
     (d .none3 .ensures) (c .refuse3 .ensures)
 

@@ -6,10 +6,11 @@ use lib.ListN.{length, take, drop}
 use lib.Seq.{length-take-le}
 use Rattle.machine.specs.Layout.{Store, store, wordsSize, bytesSize, siteIn}
 use Rattle.windows.specs.Copies.{windowsIn}
-use Rattle.machine.specs.declared.Stepped.{Stepped}
+use Rattle.machine.specs.declared.StepResult.{StepResult}
 use Rattle.group.specs.Places.{topPlaces}
 use Rattle.sites.specs.many.Memory.{memory, lent, placesIn}
-use Rattle.sites.specs.many.Inner.{Lone, lone, isFull, loneIn, toldBy, storeBy, siteBy, placesBy, areaBy, reportBy, memoryBy}
+use Rattle.sites.specs.many.Inner.{OneSite, oneSite, commonFull, loneIn, stepResultBy, storeBy, siteBy, placesBy, areaBy, reportBy}
+use Rattle.sites.specs.many.Inner.{memoryBy}
 use Rattle.sites.proofs.many.Lists.{front-length}
 use Rattle.sites.proofs.many.Memories.{cut-store, cut-words, cut-bytes, words-back, bytes-back, table-back}
 use borrow.Author.Needs.{needs}
@@ -78,8 +79,8 @@ turn-requires c κs =
       q .4,
     )
 
-set-seat-requires : tie.Need-set-seat-requires
-set-seat-requires c κs =
+set-site-slot-requires : tie.Need-set-site-slot-requires
+set-site-slot-requires c κs =
     let a = c .before .before .before .before .before .before .before .before .before .before .before .before .before .before .before
     .before .before .before .before .before .before .before .before .before .before .before .before .before .before .before .before
     .args in
@@ -121,39 +122,39 @@ returns c =
     let t = c .before .before .before .before .before .before .before .before .before .before .before .before .before .before .before
     .before .turn in
     let o = t .ensures in
-    let X : lone (store (take (wordsSize * a .i + wordsSize - wordsSize * a .i) (drop (wordsSize * a .i) (a .words .now)))
+    let X : oneSite (store (take (wordsSize * a .i + wordsSize - wordsSize * a .i) (drop (wordsSize * a .i) (a .words .now)))
     (take (bytesSize * a .i + bytesSize - bytesSize * a .i) (drop (bytesSize * a .i) (a .bytes .now))))
     (c .before .before .before .before .before .before .before .before .before .before .before .before .before .before .before .before
     .before .before .before .before .before .before .day-at .result) (a .a) (placesIn (a .table .now)) (a .area .now)
-    ≡ x = λ k. lone (cut-store m (a .i) k)
+    ≡ x = λ k. oneSite (cut-store m (a .i) k)
     ((c .before .before .before .before .before .before .before .before .before .before .before .before .before .before .before
     .before .before .before .before .before .before .before .day-at .ensures) k) (a .a) (placesIn (a .table .now)) (a .area .now) in
     let F = c .before .before .before .before .before .before .before .before .before .before .before .before .before .before .before
     .before .before .before .before .before .before .before .before .before .is-full .ensures in
-    let told = o .0 ∙ ap₂ (λ (y : Lone) (f : Bool). toldBy y f v (a .e)) X F in
-    let st : store (t .last .0) (t .last .1 .0) ≡ storeBy x (isFull m (a .e)) v (a .e) =
-    (λ k. record { words = (o .1 .0) k; bytes = (o .1 .1 .0) k }) ∙ ap₂ (λ (y : Lone) (f : Bool). storeBy y f v (a .e)) X F in
+    let told = o .0 ∙ ap₂ (λ (y : OneSite) (f : Bool). stepResultBy y f v (a .e)) X F in
+    let st : store (t .last .0) (t .last .1 .0) ≡ storeBy x (commonFull m (a .e)) v (a .e) =
+    (λ k. record { words = (o .1 .0) k; bytes = (o .1 .1 .0) k }) ∙ ap₂ (λ (y : OneSite) (f : Bool). storeBy y f v (a .e)) X F in
     let w = ap (λ (y : Store). y .words) st in
     let b = ap (λ (y : Store). y .bytes) st in
-    let S = storeBy x (isFull m (a .e)) v (a .e) in
+    let S = storeBy x (commonFull m (a .e)) v (a .e) in
     let lw : length (S .words) ≡ wordsSize = ap length (sym w) ∙ t .kept .0 ∙ cut-words m (a .i) (q .0) (q .3) in
     let lb : length (S .bytes) ≡ bytesSize = ap length (sym b) ∙ t .kept .1 .0 ∙ cut-bytes m (a .i) (q .1) (q .3) in
-    let p = o .1 .1 .1 .0 ∙ ap₂ (λ (y : Lone) (f : Bool). placesBy y f v (a .e)) X F in
-    let lp : length (placesBy x (isFull m (a .e)) v (a .e)) ≡ topPlaces = ap length (sym p) ∙ t .kept .1 .1 .0
+    let p = o .1 .1 .1 .0 ∙ ap₂ (λ (y : OneSite) (f : Bool). placesBy y f v (a .e)) X F in
+    let lp : length (placesBy x (commonFull m (a .e)) v (a .e)) ≡ topPlaces = ap length (sym p) ∙ t .kept .1 .1 .0
     ∙ length-take-le 256 (a .table .now) (omega (arith, q .2)) in
-    let site : siteIn S ≡ siteBy x (isFull m (a .e)) v (a .e) = ap siteIn (sym st) ∙ o .1 .1 .1 .1 .1 .1
-    ∙ ap₂ (λ (y : Lone) (f : Bool). siteBy y f v (a .e)) X F in (
-      ap (λ (y : Stepped). record { code = y .code; tally = y .tally }) told,
+    let site : siteIn S ≡ siteBy x (commonFull m (a .e)) v (a .e) = ap siteIn (sym st) ∙ o .1 .1 .1 .1 .1 .1
+    ∙ ap₂ (λ (y : OneSite) (f : Bool). siteBy y f v (a .e)) X F in (
+      ap (λ (y : StepResult). record { code = y .code; tally = y .tally }) told,
       (
         words-back m (a .i) S lw w,
         (
           bytes-back m (a .i) S lb b,
           (
-            c .before .before .set-seat .ensures
-                ∙ table-back (a .table .now) (a .i) lp p (ap (λ (y : Stepped). y .day) told),
+            c .before .before .set-site-slot .ensures
+                ∙ table-back (a .table .now) (a .i) lp p (ap (λ (y : StepResult). y .day) told),
             (
-              o .1 .1 .1 .1 .0 ∙ ap₂ (λ (y : Lone) (f : Bool). areaBy y f v (a .e)) X F,
-              (o .1 .1 .1 .1 .1 .0 ∙ ap₂ (λ (y : Lone) (f : Bool). reportBy y f v (a .e)) X F, ((lw, lb), lp, site)),
+              o .1 .1 .1 .1 .0 ∙ ap₂ (λ (y : OneSite) (f : Bool). areaBy y f v (a .e)) X F,
+              (o .1 .1 .1 .1 .1 .0 ∙ ap₂ (λ (y : OneSite) (f : Bool). reportBy y f v (a .e)) X F, ((lw, lb), lp, site)),
             ),
           ),
         ),
@@ -180,7 +181,7 @@ event-at-spec =
     slice-relend-prefix-turn
     slice-aggregate-turn
     turn-requires
-    set-seat-requires
+    set-site-slot-requires
     same-length
     same-length-2
     same-length-3

@@ -11,7 +11,7 @@ use Rattle.node.proofs.Answers.{done-is}
 use Rattle.machine.specs.Layout.{Store, store, wordsSize, bytesSize, siteIn}
 use Rattle.windows.specs.Copies.{windowsIn}
 use Rattle.machine.specs.hours.Stored.{storedLoadAnswer, timedLoadedStore, timedLoadedSite}
-use Rattle.machine.specs.declared.Turned.{Turned}
+use Rattle.machine.specs.declared.DayAnswer.{DayAnswer}
 use Rattle.group.specs.Places.{topPlaces, freed}
 use Rattle.group.proofs.Places.{length-freed}
 use Rattle.sites.specs.many.Memory.{memory, storeAt, placesIn}
@@ -90,7 +90,7 @@ returns c =
     let lb : length (S .bytes) ≡ bytesSize = ap length (sym b) ∙ l .kept .1 .0 ∙ cut-bytes m (a .i) (q .1) (q .3) in
     let site : siteIn S ≡ timedLoadedSite s (a .f) (a .t) (a .epochs) ws = ap siteIn (sym v) ∙ o .1 .1 .1
     ∙ ap (λ (x : Store). timedLoadedSite x (a .f) (a .t) (a .epochs) ws) e in
-    let answer : l .result .answer ≡ storedLoadAnswer s (a .f) (a .t) (a .epochs) ws = ap (λ (x : Turned). x .answer) (o .0)
+    let answer : l .result .answer ≡ storedLoadAnswer s (a .f) (a .t) (a .epochs) ws = ap (λ (x : DayAnswer). x .answer) (o .0)
     ∙ ap (λ (x : Store). storedLoadAnswer x (a .f) (a .t) (a .epochs) ws) e in
     let d : isDone (storedLoadAnswer s (a .f) (a .t) (a .epochs) ws) ≡ false = ap isDone (sym answer)
     ∙ sym (c .before .before .is-done .ensures) ∙ not-true (c .before .before .is-done .result) (c .before .if1 .taken) in (
@@ -110,8 +110,8 @@ slice-aggregate-free c =
 free-requires : tie.Need-free-requires
 free-requires c κs = search needs
 
-set-seat-requires : tie.Need-set-seat-requires
-set-seat-requires c κs =
+set-site-slot-requires : tie.Need-set-site-slot-requires
+set-site-slot-requires c κs =
     let a = c .before .before .before .before .before .before .before .before .before .before .before .before .before .before .before
     .before .before .before .args in
     let q = c .before .before .before .before .before .before .before .before .before .before .before .before .before .before .before
@@ -151,7 +151,7 @@ returns-2 c =
     let lb : length (S .bytes) ≡ bytesSize = ap length (sym b) ∙ l .kept .1 .0 ∙ cut-bytes m (a .i) (q .1) (q .3) in
     let site : siteIn S ≡ timedLoadedSite s (a .f) (a .t) (a .epochs) ws = ap siteIn (sym v) ∙ o .1 .1 .1
     ∙ ap (λ (x : Store). timedLoadedSite x (a .f) (a .t) (a .epochs) ws) e in
-    let answer : l .result .answer ≡ storedLoadAnswer s (a .f) (a .t) (a .epochs) ws = ap (λ (x : Turned). x .answer) (o .0)
+    let answer : l .result .answer ≡ storedLoadAnswer s (a .f) (a .t) (a .epochs) ws = ap (λ (x : DayAnswer). x .answer) (o .0)
     ∙ ap (λ (x : Store). storedLoadAnswer x (a .f) (a .t) (a .epochs) ws) e in
     let d : isDone (storedLoadAnswer s (a .f) (a .t) (a .epochs) ws) ≡ true = ap isDone (sym answer)
     ∙ sym (c .before .before .before .before .before .before .before .before .before .is-done .ensures)
@@ -165,7 +165,7 @@ returns-2 c =
         (
           bytes-back m (a .i) S lb b,
           (
-            c .before .before .set-seat .ensures
+            c .before .before .set-site-slot .ensures
                 ∙ table-back (a .table .now) (a .i) p (c .before .before .before .before .before .before .free .ensures) refl
                 ∙ sym (hit _ _ _ d),
             ((lw, lb), site),
@@ -198,7 +198,7 @@ load-at-spec =
     slice-relend-prefix-free
     slice-aggregate-free
     free-requires
-    set-seat-requires
+    set-site-slot-requires
     same-length-3
     same-length-4
     same-length-5

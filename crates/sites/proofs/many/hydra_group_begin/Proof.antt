@@ -7,7 +7,7 @@ use lib.Seq.{length-take-le}
 use Rattle.words.proofs.Tests.{hit, skip}
 use Rattle.lists.specs.Bytes.{written}
 use Rattle.node.specs.Answers.{number}
-use Rattle.sites.specs.many.Memory.{memory, tableSize, tooFew, groupIn}
+use Rattle.sites.specs.many.Memory.{memory, tableSize, groupTooShort, groupIn}
 use Rattle.sites.specs.many.Calls.{beginAnswer, begunTable}
 use Rattle.sites.proofs.many.Lists.{front-written}
 use Rattle.sites.proofs.many.Memories.{lengths, begun}
@@ -28,7 +28,7 @@ returns : tie.Need-returns
 unfolding beginAnswer begunTable groupIn
 returns c =
     let a = c .before .before .before .before .before .before .before .args in
-    let h : tooFew (memory (a .words .now) (a .bytes .now) (a .table .now)) ≡ true = sym (c .before .before .too-few .ensures)
+    let h : groupTooShort (memory (a .words .now) (a .bytes .now) (a .table .now)) ≡ true = sym (c .before .before .too-few .ensures)
     ∙ c .before .if1 .taken in
     (c .code .ensures ∙ sym (ap number (hit _ _ _ h)), (sym (hit _ _ _ h), λ area. hit _ _ _ h))
 
@@ -55,7 +55,7 @@ unfolding beginAnswer begunTable
 returns-2 c =
     let a = c .before .before .before .before .before .before .before .before .before .before .args in
     let m = memory (a .words .now) (a .bytes .now) (a .table .now) in
-    let h : tooFew m ≡ false = sym (c .before .before .before .before .before .too-few .ensures)
+    let h : groupTooShort m ≡ false = sym (c .before .before .before .before .before .too-few .ensures)
     ∙ c .before .before .before .before .if1 .left in
     let l = lengths m h in
     let k : length (take 280 (a .table .now)) ≡ tableSize = length-take-le 280 (a .table .now) (l .table) in

@@ -68,7 +68,7 @@ use Rattle.sites.proofs.Tallied.Laws as E′
 use Rattle.script.specs.events.Events.{eventAt}
 use Rattle.sites.specs.many.Memory as sites
 use Rattle.sites.specs.many.Memory.{memory, lent, groupIn}
-use Rattle.sites.specs.many.Calls.{lineTold, afterLine, areaAfterLine, reportAfterLine, groupAfterLine}
+use Rattle.sites.specs.many.Calls.{groupLineTallied, afterLine, areaAfterLine, reportAfterLine, groupAfterLine}
 use Rattle.sites.proofs.many.Seen.{told-same, after-same, area-same, report-same, group-same}
 use Rattle.sites.proofs.many.event_tallied as g₂
 use Rattle.sites.proofs.many.event_tallied.Symbol as g₂-def
@@ -235,7 +235,7 @@ module _ {M : Type 1} (𝓤 : URA M) (H : Heap 𝓤) (A : Atoms 𝓤) (W : Given
 
   exits : (w : Windows) (r : Tallied) (zs-words : List ℕ) (zs-bytes : List ℕ) (zs-table : List ℕ) (zs-area : List ℕ) (zs-reports : List ℕ)
       → w ≡ copyFrom noWindows 0 ys → (r
-      ≡ lineTold (memory xs-words xs-bytes xs-table) xs-area n-a (lent (listOf w) h xs-reports) (eventAt n-event n-node n-with))
+      ≡ groupLineTallied (memory xs-words xs-bytes xs-table) xs-area n-a (lent (listOf w) h xs-reports) (eventAt n-event n-node n-with))
       × (zs-words ≡ afterLine (memory xs-words xs-bytes xs-table) xs-area n-a (lent (listOf w) h xs-reports) (eventAt n-event n-node n-with)
       .words) × (zs-bytes ≡ afterLine (memory xs-words xs-bytes xs-table) xs-area n-a (lent (listOf w) h xs-reports)
       (eventAt n-event n-node n-with) .bytes)
@@ -263,7 +263,7 @@ module _ {M : Type 1} (𝓤 : URA M) (H : Heap 𝓤) (A : Atoms 𝓤) (W : Given
       (l-words, (l-bytes, (l-table, (l-area, (tt, (tt, (tt, (tt, (tt, (tt, (l-reports, tt)))))))))))) $
       says ! (
         ap (λ (z : Tallied). z .code)
-            (e .0 ∙ ap (λ (z : Windows). lineTold (memory xs-words xs-bytes xs-table) xs-area n-a (lent (listOf z) h xs-reports)
+            (e .0 ∙ ap (λ (z : Windows). groupLineTallied (memory xs-words xs-bytes xs-table) xs-area n-a (lent (listOf z) h xs-reports)
             (eventAt n-event n-node n-with)) e₁
             ∙ told-same (memory xs-words xs-bytes xs-table) xs-area n-a ys h xs-reports (eventAt n-event n-node n-with)),
         e .1
@@ -294,7 +294,7 @@ module _ {M : Type 1} (𝓤 : URA M) (H : Heap 𝓤) (A : Atoms 𝓤) (W : Given
             (eventAt n-event n-node n-with)) e₁
             ∙ group-same (memory xs-words xs-bytes xs-table) xs-area n-a ys h xs-reports (eventAt n-event n-node n-with),
         ap (λ (z : Tallied). z .tally) (e .0
-            ∙ ap (λ (z : Windows). lineTold (memory xs-words xs-bytes xs-table) xs-area n-a (lent (listOf z) h xs-reports)
+            ∙ ap (λ (z : Windows). groupLineTallied (memory xs-words xs-bytes xs-table) xs-area n-a (lent (listOf z) h xs-reports)
             (eventAt n-event n-node n-with)) e₁
             ∙ told-same (memory xs-words xs-bytes xs-table) xs-area n-a ys h xs-reports (eventAt n-event n-node n-with)),
       ) $
@@ -309,7 +309,7 @@ module _ {M : Type 1} (𝓤 : URA M) (H : Heap 𝓤) (A : Atoms 𝓤) (W : Given
       $ owned ! u32 (Is u32) (uint-makes 𝓤 H A W w32) (r .code) _ (refl, fits) $ done !
 
   exits-plain : (r : Tallied) (zs-words : List ℕ) (zs-bytes : List ℕ) (zs-table : List ℕ) (zs-area : List ℕ) (zs-reports : List ℕ) → [] ≡ ys
-      → (r ≡ lineTold (memory xs-words xs-bytes xs-table) xs-area n-a (lent [] h xs-reports) (eventAt n-event n-node n-with))
+      → (r ≡ groupLineTallied (memory xs-words xs-bytes xs-table) xs-area n-a (lent [] h xs-reports) (eventAt n-event n-node n-with))
       × (zs-words ≡ afterLine (memory xs-words xs-bytes xs-table) xs-area n-a (lent [] h xs-reports) (eventAt n-event n-node n-with) .words)
       × (zs-bytes ≡ afterLine (memory xs-words xs-bytes xs-table) xs-area n-a (lent [] h xs-reports) (eventAt n-event n-node n-with) .bytes)
       × (zs-table ≡ afterLine (memory xs-words xs-bytes xs-table) xs-area n-a (lent [] h xs-reports) (eventAt n-event n-node n-with) .table)
@@ -334,7 +334,7 @@ module _ {M : Type 1} (𝓤 : URA M) (H : Heap 𝓤) (A : Atoms 𝓤) (W : Given
       (l-words, (l-bytes, (l-table, (l-area, (tt, (tt, (tt, (tt, (tt, (tt, (l-reports, tt)))))))))))) $
       says ! (
         ap (λ (z : Tallied). z .code)
-            (e .0 ∙ ap (λ (z : List Window). lineTold (memory xs-words xs-bytes xs-table) xs-area n-a (lent z h xs-reports)
+            (e .0 ∙ ap (λ (z : List Window). groupLineTallied (memory xs-words xs-bytes xs-table) xs-area n-a (lent z h xs-reports)
             (eventAt n-event n-node n-with)) e₁),
         e .1
             ∙ ap (λ (z : List Window). afterLine (memory xs-words xs-bytes xs-table) xs-area n-a (lent z h xs-reports)
@@ -355,7 +355,7 @@ module _ {M : Type 1} (𝓤 : URA M) (H : Heap 𝓤) (A : Atoms 𝓤) (W : Given
             ∙ ap (λ (z : List Window). groupAfterLine (memory xs-words xs-bytes xs-table) xs-area n-a (lent z h xs-reports)
             (eventAt n-event n-node n-with)) e₁,
         ap (λ (z : Tallied). z .tally) (e .0
-            ∙ ap (λ (z : List Window). lineTold (memory xs-words xs-bytes xs-table) xs-area n-a (lent z h xs-reports)
+            ∙ ap (λ (z : List Window). groupLineTallied (memory xs-words xs-bytes xs-table) xs-area n-a (lent z h xs-reports)
             (eventAt n-event n-node n-with)) e₁),
       ) $
       nothing ! $ move ! (9 ∷ 0 ∷ []) $ join ! $ move ! (8 ∷ 0 ∷ []) $ join ! $ move ! (7 ∷ 0 ∷ []) $ join ! $ move ! (6 ∷ 0 ∷ []) $ join !
@@ -727,7 +727,7 @@ module _ {M : Type 1} (𝓤 : URA M) (H : Heap 𝓤) (A : Atoms 𝓤) (W : Given
         (some (λ (zs : List ℕ × (List ℕ
         × (List ℕ × (List ℕ × (List ℕ × (Unit {0} × (Unit {0} × (Unit {0} × (Unit {0} × (Unit {0} × (Unit {0} × Unit {0}))))))))))). ‵
         (lasts g₂.ended (κ0, (κ1, (κ2, (κ3, (κ6, tt))))) (args-inner w) zs) ⊛ raw
-        (fact 𝓤 ((r ≡ lineTold (memory xs-words xs-bytes xs-table) xs-area n-a (lent (listOf w) h xs-reports)
+        (fact 𝓤 ((r ≡ groupLineTallied (memory xs-words xs-bytes xs-table) xs-area n-a (lent (listOf w) h xs-reports)
         (eventAt n-event n-node n-with))
         × ((zs .0) ≡ afterLine (memory xs-words xs-bytes xs-table) xs-area n-a (lent (listOf w) h xs-reports)
         (eventAt n-event n-node n-with) .words)
@@ -743,7 +743,8 @@ module _ {M : Type 1} (𝓤 : URA M) (H : Heap 𝓤) (A : Atoms 𝓤) (W : Given
         ≡ groupAfterLine (memory xs-words xs-bytes xs-table) xs-area n-a (lent (listOf w) h xs-reports)
         (eventAt n-event n-node n-with)))))) (id⊢ 𝓤 _) $ pick ! (λ zs.
         split ! $ move ! (1 ∷ []) $ heard !
-        ((r ≡ lineTold (memory xs-words xs-bytes xs-table) xs-area n-a (lent (listOf w) h xs-reports) (eventAt n-event n-node n-with))
+        ((r ≡ groupLineTallied (memory xs-words xs-bytes xs-table) xs-area n-a (lent (listOf w) h xs-reports)
+        (eventAt n-event n-node n-with))
         × ((zs .0) ≡ afterLine (memory xs-words xs-bytes xs-table) xs-area n-a (lent (listOf w) h xs-reports)
         (eventAt n-event n-node n-with) .words)
         × ((zs .1 .0) ≡ afterLine (memory xs-words xs-bytes xs-table) xs-area n-a (lent (listOf w) h xs-reports)
@@ -901,7 +902,8 @@ module _ {M : Type 1} (𝓤 : URA M) (H : Heap 𝓤) (A : Atoms 𝓤) (W : Given
         (some (λ (zs : List ℕ × (List ℕ
         × (List ℕ × (List ℕ × (List ℕ × (Unit {0} × (Unit {0} × (Unit {0} × (Unit {0} × (Unit {0} × Unit {0})))))))))). ‵
         (lasts g₃.ended (κ0, (κ1, (κ2, (κ3, (κ6, tt))))) args-plain zs) ⊛ raw
-        (fact 𝓤 ((r ≡ lineTold (memory xs-words xs-bytes xs-table) xs-area n-a (lent [] h xs-reports) (eventAt n-event n-node n-with))
+        (fact 𝓤 ((r ≡ groupLineTallied (memory xs-words xs-bytes xs-table) xs-area n-a (lent [] h xs-reports)
+        (eventAt n-event n-node n-with))
         × ((zs .0) ≡ afterLine (memory xs-words xs-bytes xs-table) xs-area n-a (lent [] h xs-reports) (eventAt n-event n-node n-with)
         .words) × ((zs .1 .0) ≡ afterLine (memory xs-words xs-bytes xs-table) xs-area n-a (lent [] h xs-reports)
         (eventAt n-event n-node n-with) .bytes)
@@ -915,7 +917,7 @@ module _ {M : Type 1} (𝓤 : URA M) (H : Heap 𝓤) (A : Atoms 𝓤) (W : Given
         ≡ groupAfterLine (memory xs-words xs-bytes xs-table) xs-area n-a (lent [] h xs-reports) (eventAt n-event n-node n-with))))))
         (id⊢ 𝓤 _) $ pick ! (λ zs.
         split ! $ move ! (1 ∷ []) $ heard !
-        ((r ≡ lineTold (memory xs-words xs-bytes xs-table) xs-area n-a (lent [] h xs-reports) (eventAt n-event n-node n-with))
+        ((r ≡ groupLineTallied (memory xs-words xs-bytes xs-table) xs-area n-a (lent [] h xs-reports) (eventAt n-event n-node n-with))
         × ((zs .0) ≡ afterLine (memory xs-words xs-bytes xs-table) xs-area n-a (lent [] h xs-reports) (eventAt n-event n-node n-with)
         .words) × ((zs .1 .0) ≡ afterLine (memory xs-words xs-bytes xs-table) xs-area n-a (lent [] h xs-reports)
         (eventAt n-event n-node n-with) .bytes)

@@ -6,7 +6,7 @@ use Rattle.words.proofs.Tests.{hit, skip}
 use Rattle.node.specs.Answers.{isDone, number}
 use Rattle.group.proofs.Ground.{number-is}
 use Rattle.sites.specs.many.Memory.{memory}
-use Rattle.sites.specs.many.Calls.{nodeAnswer, nodeOut}
+use Rattle.sites.specs.many.Calls.{groupNodeAnswer, nodeOut}
 use Rattle.sites.proofs.many.Groups.{loaded-here, loaded-number, loaded-lengths}
 use borrow.Author.Needs.{needs}
 use Rattle.sites.proofs.many.hydra_group_node.Statement.{statement}
@@ -22,7 +22,7 @@ code-requires : tie.Need-code-requires
 code-requires c κs = search needs
 
 returns : tie.Need-returns
-unfolding nodeAnswer nodeOut
+unfolding groupNodeAnswer nodeOut
 returns c =
     let a = c .before .before .before .before .before .before .before .before .args in
     let h = ap isDone (sym (c .before .before .before .loaded-answer .ensures)) ∙ sym (c .before .before .is-done .ensures)
@@ -55,7 +55,7 @@ same-length : tie.Need-same-length
 same-length c = search needs
 
 returns-2 : tie.Need-returns-2
-unfolding nodeAnswer nodeOut
+unfolding groupNodeAnswer nodeOut
 returns-2 c =
     let a = c .before .before .before .before .before .before .before .before .before .before .before .args in
     let h = ap isDone (sym (c .before .before .before .before .before .before .loaded-answer .ensures))

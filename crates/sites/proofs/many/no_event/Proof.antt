@@ -28,8 +28,8 @@ returns c =
     ∙ not-true (c .before .before .is-done .result) (c .before .if1 .taken) in
     c .code .ensures ∙ ap number (c .before .before .before .loaded-answer .ensures) ∙ sym (ap number (skip _ _ _ _ h refl))
 
-no-place-requires : tie.Need-no-place-requires
-no-place-requires c κs = search needs
+report-too-short-requires : tie.Need-report-too-short-requires
+report-too-short-requires c κs = search needs
 
 code-requires-2 : tie.Need-code-requires-2
 code-requires-2 c κs = search needs
@@ -41,7 +41,8 @@ returns-2 c =
     ∙ sym (c .before .before .before .before .is-done .ensures)
     ∙ not-false (c .before .before .before .before .is-done .result) (c .before .before .before .if1 .left) in
     c .code2 .ensures ∙ sym (ap number
-    (hit _ _ _ h ∙ hit _ _ _ (ap (λ (b : Bool). ltb (length (a .area .now)) areaSize || b) (sym (c .before .before .no-place .ensures))
+    (hit _ _ _ h ∙ hit _ _ _
+    (ap (λ (b : Bool). ltb (length (a .area .now)) areaSize || b) (sym (c .before .before .report-too-short .ensures))
     ∙ c .before .if2 .taken)))
 
 code-requires-3 : tie.Need-code-requires-3
@@ -55,7 +56,7 @@ returns-3 c =
     ∙ not-false (c .before .before .before .before .is-done .result) (c .before .before .before .if1 .left) in
     c .code3 .ensures ∙ sym (ap number
     (hit _ _ _ h ∙ skip _ _ _ _ (ap (λ (b : Bool). ltb (length (a .area .now)) areaSize || b)
-    (sym (c .before .before .no-place .ensures)) ∙ c .before .if2 .left) refl))
+    (sym (c .before .before .report-too-short .ensures)) ∙ c .before .if2 .left) refl))
 
 pub no-event-spec : {M : Type 1} → statement M
 no-event-spec =
@@ -65,7 +66,7 @@ no-event-spec =
     is-done-requires
     code-requires
     returns
-    no-place-requires
+    report-too-short-requires
     code-requires-2
     returns-2
     code-requires-3

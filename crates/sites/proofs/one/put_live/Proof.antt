@@ -1,11 +1,12 @@
 use mathlib.Core.List.{[], _∷_}
-use mathlib.Core.Path.{_≡_, sym, ap, _∙_}
-use lib.ListN.{length}
+use mathlib.Core.Path.{_≡_, refl, sym, ap, _∙_}
+use lib.ListN.{length, replicate}
 use Rattle.lists.specs.Bytes.{bytes32}
 use Rattle.lists.proofs.Chain.{retry}
 use Rattle.node.specs.declared.Core.{Core}
 use Rattle.machine.specs.Layout.{store}
 use Rattle.machine.specs.Loading.{memberRead}
+use Rattle.machine.proofs.Owned.{told-whole}
 use Rattle.sites.proofs.one.Laws.{live-put}
 use borrow.Author.Needs.{needs}
 use Rattle.sites.proofs.one.put_live.Statement.{statement}
@@ -14,8 +15,11 @@ use Rattle.sites.proofs.one.put_live.Tie as tie
 core-requires : tie.Need-core-requires
 core-requires c κs = search needs
 
-owners-requires : tie.Need-owners-requires
-owners-requires c κs = search needs
+slice-aggregate-tell-owners : tie.Need-slice-aggregate-tell-owners
+slice-aggregate-tell-owners c = search needs
+
+tell-owners-requires : tie.Need-tell-owners-requires
+tell-owners-requires c κs = search needs
 
 word-bytes-requires : tie.Need-word-bytes-requires
 word-bytes-requires c κs = search needs
@@ -57,23 +61,26 @@ returns c =
     let d1 = d2 .before .before .before .before in
     let d0 = d1 .before .before .before .before .before in
     let b = d0 .before .before .before .before .before in
-    let o = b .before .before .before .before .owners in
-    let k = b .before .before .before .before .before .core .ensures in
-    let long : length (o .result) ≡ 80 = search needs in
-    let f = b .before .before .before .before .before .before .before .before .before in
-    let n = memberRead (store (f .args .words .now) (f .args .bytes .now)) (f .args .j) .node in
-    live-put n (f .pre) (ap length (sym (o .ensures)) ∙ long) (b .put-byte .ensures)
+    let o = b .before .before .before .before .before .tell-owners in
+    let k = b .before .before .before .before .before .before .before .core .ensures in
+    let f = b .before .before .before .before .before .before .before .before .before .before .before in
+    let s = store (f .args .words .now) (f .args .bytes .now) in
+    let n = memberRead s (f .args .j) .node in
+    let w = o .ensures ∙ told-whole s (f .args .j) (replicate 80 0) refl (f .pre .1) in
+    let long : length (o .last .1 .1 .1 .0) ≡ 80 = search needs in
+    live-put n (f .pre .0) (ap length (sym w) ∙ long) (b .put-byte .ensures)
     (retry (b .before .before .before .word-bytes .ensures ∙ ap (λ (x : Core). bytes32 (x .version)) k) (d0 .put-bytes .ensures))
     (retry (b .before .before .word-bytes2 .ensures ∙ ap (λ (x : Core). bytes32 (x .flags)) k) (d1 .put-bytes2 .ensures))
     (retry (ap (λ (x : Core). x .request ∷ []) k) (d2 .put-byte2 .ensures))
-    (retry (o .ensures) (d3 .put-bytes3 .ensures))
+    (retry w (d3 .put-bytes3 .ensures))
 
 pub put-live-spec : {M : Type 1} → statement M
 put-live-spec =
     tie.close
     (tie.spec
     core-requires
-    owners-requires
+    slice-aggregate-tell-owners
+    tell-owners-requires
     word-bytes-requires
     word-bytes-requires-2
     put-byte-requires

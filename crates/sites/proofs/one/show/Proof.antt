@@ -19,8 +19,8 @@ returns c =
     let a = c .before .before .before .before .before .args in
     no-room (store (a .words .now) (a .bytes .now)) (a .j) (a .out .now) (c .before .if1 .taken) (c .code .ensures)
 
-channel-requires : tie.Need-channel-requires
-channel-requires c κs = search needs
+header-requires : tie.Need-header-requires
+header-requires c κs = search needs
 
 outside-requires : tie.Need-outside-requires
 outside-requires c κs = search needs
@@ -35,7 +35,7 @@ returns-2 c =
     let few = c .before .before .before .before .if1 .left in
     let h = or-neither (tooShort s) (ltb (length (a .out .now)) shownSize) few .0 in
     no-node s (a .j) (a .out .now) few
-    (outside-is s (a .j) h (c .before .before .before .channel .ensures) (c .before .before .outside .ensures) ∙ c .before .if2 .taken)
+    (outside-is s (a .j) h (c .before .before .before .header .ensures) (c .before .before .outside .ensures) ∙ c .before .if2 .taken)
     (c .code2 .ensures)
 
 put-node-requires : tie.Need-put-node-requires
@@ -44,7 +44,7 @@ put-node-requires c κs =
     let s = store (a .words .now) (a .bytes .now) in
     let q = or-neither (tooShort s) (ltb (length (a .out .now)) shownSize) (c .before .before .before .before .if1 .left) in
     let w = long-enough s (q .0) in
-    let o = outside-is s (a .j) (q .0) (c .before .before .before .channel .ensures) (c .before .before .outside .ensures)
+    let o = outside-is s (a .j) (q .0) (c .before .before .before .header .ensures) (c .before .before .outside .ensures)
     ∙ c .before .if2 .left in
     (ltb-false _ _ (q .1), has-place s (a .j) (w .0) (w .1) o)
 
@@ -61,7 +61,7 @@ returns-3 c =
     let s = store (a .words .now) (a .bytes .now) in
     let few = d .before .before .before .if1 .left in
     let h = or-neither (tooShort s) (ltb (length (a .out .now)) shownSize) few .0 in
-    let o = outside-is s (a .j) h (d .before .before .channel .ensures) (d .before .outside .ensures) ∙ d .if2 .left in
+    let o = outside-is s (a .j) h (d .before .before .header .ensures) (d .before .outside .ensures) ∙ d .if2 .left in
     shows s (a .j) (a .out .now) few o (c .code3 .ensures) (c .before .before .before .put-node .ensures .is)
 
 pub show-spec : {M : Type 1} → statement M
@@ -70,7 +70,7 @@ show-spec =
     (tie.spec
     code-requires
     returns
-    channel-requires
+    header-requires
     outside-requires
     code-requires-2
     returns-2

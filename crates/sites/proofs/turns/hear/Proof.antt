@@ -10,7 +10,7 @@ use Rattle.node.specs.declared.Answer.{Answer}
 use Rattle.wire.specs.Reads.{partOf}
 use Rattle.site.specs.Counts.{packets}
 use Rattle.machine.specs.Layout.{Store, store, siteIn}
-use Rattle.machine.specs.turn.Kept.{firstOf}
+use Rattle.machine.specs.turn.Kept.{firstRefusal}
 use Rattle.sites.specs.many.Inner.{ownBy}
 use Rattle.sites.proofs.many.Hears.{part-there, heard-done, heard-refused}
 use borrow.Author.Needs.{needs}
@@ -60,7 +60,7 @@ returns c =
     (c .before .before .before .before .before .before .if1 .taken) in
     let z = heard-refused s (p .0) (p .1) (partOf part 0) own (a .j) (a .p) f (a .o) h in (
       c .code .ensures ∙ ap number (c .before .first-of .ensures
-          ∙ ap (λ (x : Answer). firstOf x (a .o)) (c .before .before .answer-from .ensures) ∙ z .0),
+          ∙ ap (λ (x : Answer). firstRefusal x (a .o)) (c .before .before .answer-from .ensures) ∙ z .0),
       (ap (λ (x : Store). x .words) (z .1), ap (λ (x : Store). x .bytes) (z .1)),
     )
 

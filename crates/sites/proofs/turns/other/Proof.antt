@@ -5,9 +5,9 @@ use lib.Dec.{eqb}
 use Rattle.words.proofs.Tests.{both}
 use Rattle.machine.specs.Layout.{store}
 use Rattle.windows.specs.Copies.{windowsIn}
-use Rattle.machine.specs.declared.Stepped.{Stepped}
+use Rattle.machine.specs.declared.StepResult.{StepResult}
 use Rattle.sites.specs.many.Memory.{lent}
-use Rattle.sites.specs.many.Inner.{lone}
+use Rattle.sites.specs.many.Inner.{oneSite}
 use Rattle.sites.proofs.many.Events.{other-turn}
 use borrow.Author.Needs.{needs}
 use Rattle.sites.proofs.turns.other.Statement.{statement}
@@ -43,12 +43,12 @@ returns c =
     .before .before .before .before .before .before .before .before .before .before .args in
     let p = c .before .before .before .before .before .before .before .before .before .before .before .before .before .before .before
     .before .before .before .before .before .before .before .before .before .before .pre in
-    let x = lone (store (a .words .now) (a .bytes .now)) (a .day) (a .a) (a .list .now) (a .area .now) in
+    let x = oneSite (store (a .words .now) (a .bytes .now)) (a .day) (a .a) (a .list .now) (a .area .now) in
     let v = lent (windowsIn (a .w .now)) (a .t) (a .out .now) in
     let o = c .before .before .before .before .before .before .before .before .before .before .before .before .before .before .step .ensures
     in
     other-turn x v (p .0) false (a .e) (p .1) (p .2) (o .0) (o .1 .0) (o .1 .1 .0) (o .1 .1 .1 .0) (o .1 .1 .1 .1)
-    (both (c .before .before .before .before .before .is-close .ensures) (ap (λ (z : Stepped). eqb (z .code) 0) (o .0)))
+    (both (c .before .before .before .before .before .is-close .ensures) (ap (λ (z : StepResult). eqb (z .code) 0) (o .0)))
     (c .before .before .free-where .ensures)
 
 pub other-spec : {M : Type 1} → statement M

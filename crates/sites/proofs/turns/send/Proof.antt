@@ -13,10 +13,10 @@ use Rattle.site.specs.Members.{memberAt}
 use Rattle.site.specs.Answers.{siteSend}
 use Rattle.site.specs.Steps.{stored}
 use Rattle.machine.specs.Layout.{store, siteIn}
-use Rattle.machine.specs.turn.Kept.{firstOf}
+use Rattle.machine.specs.turn.Kept.{firstRefusal}
 use Rattle.group.specs.Places.{entry}
 use Rattle.group.specs.Group.{ownShare}
-use Rattle.sites.specs.many.Inner.{sendAnswer}
+use Rattle.sites.specs.many.Inner.{groupSendAnswer}
 use Rattle.sites.proofs.many.Sends.{send-answer, send-refused, send-crowded, send-done, bytes-sent, area-sent}
 use borrow.Author.Needs.{needs}
 use Rattle.sites.proofs.turns.send.Statement.{statement}
@@ -47,8 +47,8 @@ returns c =
     let s = store (a .words .now) (a .bytes .now) in
     let e : c .before .before .before .before .answer-to .result ≡ siteSend (siteIn s) (a .j) =
     c .before .before .before .before .answer-to .ensures ∙ send-answer s (a .area .now) (a .j) (p .0) (p .1) (p .3) in
-    let f : c .before .before .before .first-of .result ≡ sendAnswer s (a .o) (a .j) = c .before .before .before .first-of .ensures
-    ∙ ap (λ (z : Answer). firstOf z (a .o)) e in
+    let f : c .before .before .before .first-of .result ≡ groupSendAnswer s (a .o) (a .j) = c .before .before .before .first-of .ensures
+    ∙ ap (λ (z : Answer). firstRefusal z (a .o)) e in
     let d = ap isDone (sym f) ∙ sym (c .before .before .is-done .ensures)
     ∙ not-true (c .before .before .is-done .result) (c .before .if1 .taken) in
     send-refused s (a .o) (a .full) (a .j) (a .a) (a .list .now) (a .area .now) d (c .code .ensures ∙ ap number f)
@@ -73,8 +73,8 @@ returns-2 c =
     let e : c .before .before .before .before .before .before .before .answer-to .result ≡ siteSend (siteIn s) (a .j) =
     c .before .before .before .before .before .before .before .answer-to .ensures
     ∙ send-answer s (a .area .now) (a .j) (p .0) (p .1) (p .3) in
-    let f : c .before .before .before .before .before .before .first-of .result ≡ sendAnswer s (a .o) (a .j) =
-    c .before .before .before .before .before .before .first-of .ensures ∙ ap (λ (z : Answer). firstOf z (a .o)) e in
+    let f : c .before .before .before .before .before .before .first-of .result ≡ groupSendAnswer s (a .o) (a .j) =
+    c .before .before .before .before .before .before .first-of .ensures ∙ ap (λ (z : Answer). firstRefusal z (a .o)) e in
     let d = ap isDone (sym f) ∙ sym (c .before .before .before .before .before .is-done .ensures)
     ∙ not-false (c .before .before .before .before .before .is-done .result) (c .before .before .before .before .if1 .left) in
     send-crowded s (a .o) (a .full) (a .j) (a .a) (a .list .now) (a .area .now) d
@@ -123,9 +123,9 @@ returns-3 c =
     c .before .before .before .before .before .before .before .before .before .before .before .before .before .before .before
     .before .before .before .before .answer-to .ensures ∙ send-answer s (a .area .now) (a .j) (p .0) (p .1) (p .3) in
     let f : c .before .before .before .before .before .before .before .before .before .before .before .before .before .before .before
-    .before .before .before .first-of .result ≡ sendAnswer s (a .o) (a .j) =
+    .before .before .before .first-of .result ≡ groupSendAnswer s (a .o) (a .j) =
     c .before .before .before .before .before .before .before .before .before .before .before .before .before .before .before
-    .before .before .before .first-of .ensures ∙ ap (λ (z : Answer). firstOf z (a .o)) e in
+    .before .before .before .first-of .ensures ∙ ap (λ (z : Answer). firstRefusal z (a .o)) e in
     let d = ap isDone (sym f) ∙ sym
     (c .before .before .before .before .before .before .before .before .before .before .before .before .before .before .before .before
     .before .is-done .ensures) ∙ not-false
@@ -133,7 +133,7 @@ returns-3 c =
     .before .before .is-done .result)
     (c .before .before .before .before .before .before .before .before .before .before .before .before .before .before .before
     .before .if1 .left) in
-    let q = both-done (siteSend (siteIn s) (a .j)) (a .o) (done-is (sendAnswer s (a .o) (a .j)) d) in
+    let q = both-done (siteSend (siteIn s) (a .j)) (a .o) (done-is (groupSendAnswer s (a .o) (a .j)) d) in
     let n = c .before .before .before .before .before .before .before .before .before .before .before .before .before .before .packets
     .ensures .0 in
     let at = c .before .before .before .before .before .before .before .before .before .before .before .place-of .ensures .0 in

@@ -6,8 +6,8 @@ use Rattle.site.specs.declared.Event.the-variants.{Send, Hear}
 use Rattle.machine.specs.Layout.{store}
 use Rattle.windows.specs.Copies.{windowsIn}
 use Rattle.sites.specs.many.Memory.{lent}
-use Rattle.sites.specs.many.Inner.{lone, ownOf, sendNumber, sendStore, sendPlaces, sendArea, hearAnswer, hearStore}
-use Rattle.sites.proofs.many.Events.{Turned, room, send-is, hear-is, room-turn, send-turn, hear-turn, unfull}
+use Rattle.sites.specs.many.Inner.{oneSite, ownAreaOf, sendNumber, sendStore, sendPlaces, sendArea, groupHearAnswer, hearStore}
+use Rattle.sites.proofs.many.Events.{DayAnswer, room, send-is, hear-is, room-turn, send-turn, hear-turn, unfull}
 use Rattle.node.specs.Answers.{number}
 use borrow.Author.Needs.{needs}
 use Rattle.sites.proofs.turns.turn.Statement.{statement}
@@ -34,7 +34,7 @@ same-length-4 c = search needs
 returns : tie.Need-returns
 returns c =
     let a = c .before .before .before .before .before .before .before .before .before .before .before .before .before .args in
-    let x = lone (store (a .words .now) (a .bytes .now)) (a .day) (a .a) (a .list .now) (a .area .now) in
+    let x = oneSite (store (a .words .now) (a .bytes .now)) (a .day) (a .a) (a .list .now) (a .area .now) in
     let v = lent (windowsIn (a .w .now)) (a .t) (a .out .now) in
     room-turn x (a .full) v (a .e) (sym (c .before .before .too-few .ensures) ∙ c .before .if1 .taken) (c .code .ensures)
 
@@ -53,7 +53,7 @@ send-requires c κs =
     .before .before .before .before .before .before .before .args in
     let p = c .before .before .before .before .before .before .before .before .before .before .before .before .before .before .before
     .before .before .before .before .before .before .before .pre in
-    let x = lone (store (a .words .now) (a .bytes .now)) (a .day) (a .a) (a .list .now) (a .area .now) in
+    let x = oneSite (store (a .words .now) (a .bytes .now)) (a .day) (a .a) (a .list .now) (a .area .now) in
     let v = lent (windowsIn (a .w .now)) (a .t) (a .out .now) in
     let few = sym (c .before .before .before .before .before .before .before .before .before .before .before .too-few .ensures)
     ∙ c .before .before .before .before .before .before .before .before .before .before .if1 .left in
@@ -80,7 +80,7 @@ returns-2 c =
     .before .before .before .before .before .before .before .before .before .before .before .before .before .before .args in
     let p = c .before .before .before .before .before .before .before .before .before .before .before .before .before .before .before
     .before .before .before .before .before .before .before .before .before .before .before .before .before .before .pre in
-    let x = lone (store (a .words .now) (a .bytes .now)) (a .day) (a .a) (a .list .now) (a .area .now) in
+    let x = oneSite (store (a .words .now) (a .bytes .now)) (a .day) (a .a) (a .list .now) (a .area .now) in
     let v = lent (windowsIn (a .w .now)) (a .t) (a .out .now) in
     let few = sym (c .before .before .before .before .before .before .before .before .before .before .before .before .before .before .before
     .before .before .before .too-few .ensures)
@@ -95,7 +95,8 @@ returns-2 c =
     let s = c .before .before .before .before .before .before .send in
     let o = s .ensures in
     let q = c .before .before .before .before .before .before .before .before .before .before .before .before .listed .ensures in
-    subst (λ (e : Event). Turned x (a .full) v e (record { code = s .result; day = a .day; tally = a .t }) (a .words .now) (s .last .1 .0)
+    subst (λ (e : Event). DayAnswer x (a .full) v e (record { code = s .result; day = a .day; tally = a .t })
+    (a .words .now) (s .last .1 .0)
     (s .last .1 .1 .0) (s .last .1 .1 .1 .0) (a .out .now)) e
     (send-turn x v few (a .full) (j .result) (o .0 ∙ ap (λ (z : Answer). sendNumber (x .store) z (a .full) (j .result)) q)
     (o .1 .0 ∙ ap (λ (z : Answer). sendStore (x .store) z (a .full) (j .result) .bytes) q)
@@ -139,7 +140,7 @@ returns-3 c =
     .before .before .before .before .before .before .before .before .before .before .before .before .before .before .before .args in
     let p = c .before .before .before .before .before .before .before .before .before .before .before .before .before .before .before
     .before .before .before .before .before .before .before .before .before .before .before .before .before .before .before .pre in
-    let x = lone (store (a .words .now) (a .bytes .now)) (a .day) (a .a) (a .list .now) (a .area .now) in
+    let x = oneSite (store (a .words .now) (a .bytes .now)) (a .day) (a .a) (a .list .now) (a .area .now) in
     let v = lent (windowsIn (a .w .now)) (a .t) (a .out .now) in
     let few = sym (c .before .before .before .before .before .before .before .before .before .before .before .before .before .before .before
     .before .before .before .before .too-few .ensures)
@@ -155,12 +156,12 @@ returns-3 c =
     let s = c .before .before .before .before .hear in
     let o = s .ensures in
     let q = c .before .before .before .before .before .before .before .before .before .before .before .listed2 .ensures in
-    subst (λ (e : Event). Turned x (a .full) v e (record { code = s .result; day = a .day; tally = a .t }) (s .last .0) (s .last .1 .0)
+    subst (λ (e : Event). DayAnswer x (a .full) v e (record { code = s .result; day = a .day; tally = a .t }) (s .last .0) (s .last .1 .0)
     (a .list .now) (a .area .now) (a .out .now)) e
     (hear-turn x v few (a .full) (j .result) (k .result)
-    (o .0 ∙ ap (λ (z : Answer). number (hearAnswer (x .store) (ownOf x) z (j .result) (k .result))) q)
-    (o .1 .0 ∙ ap (λ (z : Answer). hearStore (x .store) (ownOf x) z (j .result) (k .result) .words) q)
-    (o .1 .1 ∙ ap (λ (z : Answer). hearStore (x .store) (ownOf x) z (j .result) (k .result) .bytes) q))
+    (o .0 ∙ ap (λ (z : Answer). number (groupHearAnswer (x .store) (ownAreaOf x) z (j .result) (k .result))) q)
+    (o .1 .0 ∙ ap (λ (z : Answer). hearStore (x .store) (ownAreaOf x) z (j .result) (k .result) .words) q)
+    (o .1 .1 ∙ ap (λ (z : Answer). hearStore (x .store) (ownAreaOf x) z (j .result) (k .result) .bytes) q))
 
 other-requires : tie.Need-other-requires
 other-requires c κs = (
@@ -191,7 +192,7 @@ returns-4 c =
     let a = c .before .before .before .before .before .before .before .before .before .before .before .before .before .before .before
     .before .before .before .before .before .before .before .before .before .before .before .before .before .before .before .before
     .before .args in
-    let x = lone (store (a .words .now) (a .bytes .now)) (a .day) (a .a) (a .list .now) (a .area .now) in
+    let x = oneSite (store (a .words .now) (a .bytes .now)) (a .day) (a .a) (a .list .now) (a .area .now) in
     let v = lent (windowsIn (a .w .now)) (a .t) (a .out .now) in
     unfull x v (a .full) (a .e) (sym
     (c .before .before .before .before .before .before .before .before .before .before .before .before .before .before .before .before

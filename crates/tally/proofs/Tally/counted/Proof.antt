@@ -2,7 +2,7 @@ use mathlib.Core.Path.{_≡_, refl, sym, ap, _∙_}
 use Prim.Native.Nat.{_-_}
 use mathlib.Core.Bool.{Bool, true, false, not, _&&_}
 use Rattle.words.proofs.Tests.{hit, skip, both, and-left, and-right}
-use Rattle.tally.specs.Counting.{tallyOk, isFull, countedBy}
+use Rattle.tally.specs.Counting.{tallyOk, tallyFull, countedBy}
 use Rattle.tally.proofs.Valid.{valid, not-full}
 use borrow.Author.Needs.{needs}
 use Rattle.tally.proofs.Tally.counted.Statement.{statement}
@@ -16,7 +16,7 @@ is-full-requires c κs = search needs
 
 -- the test is that of the definition
 tested : (c : tie.After-is-full) (b : Bool) → (c .before .is-valid .result && not (c .is-full .result)) ≡ b
-    → (tallyOk (c .before .before .args .self) && not (isFull (c .before .before .args .self))) ≡ b
+    → (tallyOk (c .before .before .args .self) && not (tallyFull (c .before .before .args .self))) ≡ b
 tested c b e = both (sym (c .before .is-valid .ensures)) (ap not (sym (c .is-full .ensures))) ∙ e
 
 added-requires : tie.Need-added-requires

@@ -4,7 +4,7 @@ use native.Mathlib.Omega.{arith}
 use Rattle.lists.specs.All.{allBelow}
 use Rattle.lists.proofs.Laws.{all-none, all-more, all-end}
 use Rattle.tally.specs.Claims.{sum as summed}
-use Rattle.tally.specs.Counting.{slotsAt, entryOk, tallyOk}
+use Rattle.tally.specs.Counting.{slotsAt, tallyEntryOk, tallyOk}
 use Rattle.tally.proofs.Sums.{sum-none, sum-more, sum-end}
 use mathlib.Core.Bool.{Bool, _&&_}
 use mathlib.Core.Path.{ap₂}
@@ -14,7 +14,7 @@ use Rattle.tally.proofs.Tally.is_valid.Statement.{statement}
 use Rattle.tally.proofs.Tally.is_valid.Tie as tie
 
 abbrev Inv-loop : tie.InvT-loop
-Inv-loop self slots ok₀ sum₀ i₀ ok sum i = (i ≤ 32) × (sum ≤ i * 4294967295) × (ok ≡ allBelow i (entryOk self))
+Inv-loop self slots ok₀ sum₀ i₀ ok sum i = (i ≤ 32) × (sum ≤ i * 4294967295) × (ok ≡ allBelow i (tallyEntryOk self))
     × (sum ≡ summed i (slotsAt self))
 
 abbrev μ-loop : tie.MeasureT-loop
