@@ -2,4 +2,3 @@
 pub mod Laws
 pub mod Firsts
 pub mod Missing
-pub mod Within

@@ -1,11 +1,10 @@
 // Requests by node: 32 entries, the request or 255 for none.
 ghost use mathlib.Core.Path.{_≡_};
-ghost use mathlib.Core.Bool.{cond, _||_};
+ghost use mathlib.Core.Bool.{cond};
 ghost use Prim.Native.Nat.{_-_};
-ghost use lib.Dec.{eqb, ltb, leb};
-ghost use Rattle.allotment.specs.Allotment.{topRequest};
+ghost use lib.Dec.{eqb, ltb};
 ghost use Rattle.membership.specs.requests.Requests.{none, requesters, noRequests, only, entryOf, firstKnown, union, agreeAt, agree};
-ghost use Rattle.membership.specs.requests.Requests.{requestsWithin, lowestMissing};
+ghost use Rattle.membership.specs.requests.Requests.{requestWithin, requestsWithin, lowestMissing};
 
 // The entry of a node without a request.
 pub const NONE: u8 = 255;
@@ -110,23 +109,23 @@ pub fn agree(a: [u8; 32], b: [u8; 32]) -> bool
     ok
 }
 
-// No request, or one within the range of requests.
-fn is_entry(x: u8) -> bool
-    ensures { λ r. ⌜ r ≡ (eqb x none || leb x topRequest) ⌝ }
+fn request_within(x: u8, flag: bool) -> bool
+    ensures { λ r. ⌜ r ≡ requestWithin x flag ⌝ }
 {
-    (x == NONE) | (x <= allotment::TOP_REQUEST)
+    (x == NONE) | ((x <= allotment::TOP_REQUEST) & flag)
 }
 
-// Whether requests stand only for the nodes of a set. Their nodes are compared with it as one word, and no flag is tested by itself.
+// Whether requests stand only for the nodes of a set.
 pub fn requests_within(l: [u8; 32], flags: u32) -> bool
     ensures { λ r. ⌜ r ≡ requestsWithin l flags ⌝ }
 {
     let mut ok = true;
     for i in 0..32usize {
-        let one = is_entry(l[i]);
+        let flag = words::contains(flags, i as u32);
+        let one = request_within(l[i], flag);
         ok = ok & one;
     }
-    ok & words::inside(requesters(l), flags)
+    ok
 }
 
 // The lowest node of a set that has no request; 0 for none.

@@ -1,33 +1,35 @@
 use mathlib.Core.Path.{_≡_, ap, _∙_}
-use Prim.Native.Nat.{ℕ, _^_, _<_, _≤_, _-_}
+use Prim.Native.Nat.{_≤_, _-_}
 use native.Mathlib.Omega.{arith}
+use lib.ListN.{getD}
 use borrow.Author.Needs.{needs}
 use Rattle.lists.proofs.Laws.{all-none, all-more, all-end}
 use Rattle.lists.specs.All.{allBelow}
-use Rattle.words.specs.Bits.{isInside}
-use Rattle.words.proofs.Tests.{both}
-use Rattle.membership.proofs.requests.Within.{isEntry, within-is}
+use Rattle.words.specs.Bits.{hasBit}
+use Rattle.membership.specs.requests.Requests.{requestsWithin, requestWithin}
 use Rattle.membership.proofs.requests.requests_within.Statement.{statement}
 use Rattle.membership.proofs.requests.requests_within.Tie as tie
 
 abbrev Inv-loop : tie.InvT-loop
-Inv-loop flags l ok₀ i₀ ok i = (i ≤ 32) × (ok ≡ allBelow i (isEntry l))
+Inv-loop flags l ok₀ i₀ ok i = (i ≤ 32) × (ok ≡ allBelow i (λ j. requestWithin (getD l j 0) (hasBit flags j)))
 
 abbrev μ-loop : tie.MeasureT-loop
 μ-loop flags l ok₀ i₀ ok i = 32 - i
 
--- the set is a word
-small : (c : tie.Start Inv-loop μ-loop) → c .args .flags < 2 ^ 32
-small c = search needs
-
 loop-holds : tie.Need-loop-holds Inv-loop μ-loop
 loop-holds c = (omega arith, all-none _)
 
-array-read-is-entry : tie.Need-array-read-is-entry Inv-loop μ-loop
-array-read-is-entry c = omega arith
+cast-contains : tie.Need-cast-contains Inv-loop μ-loop
+cast-contains c = omega arith
 
-is-entry-requires : tie.Need-is-entry-requires Inv-loop μ-loop
-is-entry-requires c κs = search needs
+contains-requires : tie.Need-contains-requires Inv-loop μ-loop
+contains-requires c κs = search needs
+
+array-read-request-within : tie.Need-array-read-request-within Inv-loop μ-loop
+array-read-request-within c = omega arith
+
+request-within-requires : tie.Need-request-within-requires Inv-loop μ-loop
+request-within-requires c κs = search needs
 
 add-i : tie.Need-add-i Inv-loop μ-loop
 add-i c = omega arith
@@ -36,21 +38,16 @@ loop-less : tie.Need-loop-less Inv-loop μ-loop
 loop-less c = omega arith
 
 loop-again : tie.Need-loop-again Inv-loop μ-loop
-loop-again c = (omega arith, all-more _ _ _ _ (c .before .before .loop .inv .1) (c .is-entry .ensures))
-
-requesters-requires : tie.Need-requesters-requires Inv-loop μ-loop
-requesters-requires c κs = search needs
-
-inside-requires : tie.Need-inside-requires Inv-loop μ-loop
-inside-requires c κs = search needs
+loop-again c = (
+  omega arith,
+  all-more _ _ _ _ (c .before .before .before .loop .inv .1)
+      (c .request-within .ensures ∙ ap (requestWithin (getD (c .before .before .before .before .args .t1)
+      (c .before .before .before .loop .i) 0)) (c .before .contains .ensures)),
+)
 
 returns : tie.Need-returns Inv-loop μ-loop
-returns c =
-    let d = c .before .before .before in
-    let s = d .before in
-    let every = all-end _ _ 32 _ (d .loop .inv .1) (omega arith) in
-    let word = c .inside .ensures ∙ ap (λ (x : ℕ). isInside x (s .args .flags)) (c .before .requesters .ensures) in
-    both every word ∙ within-is (s .args .t1) (s .args .flags) (small s)
+unfolding requestsWithin
+returns c = all-end _ _ _ _ (c .before .loop .inv .1) (omega arith)
 
 pub requests-within-spec : {M : Type 1} → statement M
 requests-within-spec =
@@ -59,11 +56,11 @@ requests-within-spec =
     Inv-loop
     μ-loop
     loop-holds
-    array-read-is-entry
-    is-entry-requires
+    cast-contains
+    contains-requires
+    array-read-request-within
+    request-within-requires
     add-i
     loop-less
     loop-again
-    requesters-requires
-    inside-requires
     returns)
