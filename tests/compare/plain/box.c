@@ -11,6 +11,7 @@
 #include <string.h>
 
 #include "hydra.h"
+#include "packet.h"
 
 /* The area (docs/node-area.md). */
 enum {
@@ -41,11 +42,6 @@ enum {
 /* The masks of a schedule: first words, second words, counts. */
 enum { SECOND = 256, COUNT = 320, MASKS_SIZE = 352 };
 
-/* A packet on the air (5). */
-enum { SENDER = 0, SENT_LOWEST = 1, SENT_HIGHEST = 5, SENT_FLAGS = 9, SENT_REQUESTS = 13 };
-
-enum { TOP_NODES = HYDRA_TOP_NODES, NO_REQUEST = 255 };
-
 /* ---- Words, highest byte first ---- */
 
 static uint64_t word64(const uint8_t *at)
@@ -53,13 +49,6 @@ static uint64_t word64(const uint8_t *at)
     uint64_t w;
     memcpy(&w, at, sizeof w);
     return __builtin_bswap64(w);
-}
-
-static uint32_t word(const uint8_t *at)
-{
-    uint32_t w;
-    memcpy(&w, at, sizeof w);
-    return __builtin_bswap32(w);
 }
 
 static uint32_t word16(const uint8_t *at)
@@ -75,12 +64,6 @@ static void put_word64(uint8_t *at, uint64_t w)
     memcpy(at, &w, sizeof w);
 }
 
-static void put_word(uint8_t *at, uint32_t w)
-{
-    w = __builtin_bswap32(w);
-    memcpy(at, &w, sizeof w);
-}
-
 static void put_word16(uint8_t *at, uint32_t w)
 {
     uint16_t half = __builtin_bswap16((uint16_t)w);
@@ -88,27 +71,6 @@ static void put_word16(uint8_t *at, uint32_t w)
 }
 
 /* ---- Eight bytes in one step ---- */
-
-static const uint64_t EACH = 0x0101010101010101;
-
-static uint64_t eight(const uint8_t *at)
-{
-    uint64_t w;
-    memcpy(&w, at, sizeof w);
-    return w;
-}
-
-static uint64_t top_bits(uint64_t w)
-{
-    return w >> 7 & EACH;
-}
-
-/* The lowest bits of eight bytes as one byte: the product moves each to its place in the highest
- * byte. */
-static uint32_t gathered(uint64_t lowest_bits)
-{
-    return (uint32_t)(lowest_bits * 0x0102040810204080 >> 56);
-}
 
 static int all_zero(const uint8_t *at, size_t length)
 {
@@ -135,16 +97,6 @@ static int none_above(const uint8_t *at, size_t length, uint32_t most)
 
 /* ---- Sets of nodes (1) ---- */
 
-static uint32_t single(uint32_t node)
-{
-    return (uint32_t)1 << (node - 1);
-}
-
-static uint32_t all_of(uint32_t nodes)
-{
-    return 0xFFFFFFFF >> (TOP_NODES - nodes);
-}
-
 static int has(uint32_t set, uint32_t node)
 {
     return (set & single(node)) != 0;
@@ -161,10 +113,7 @@ static int are_enough(const uint8_t *area, uint32_t set)
     return word(area + SPLIT) == 1 || is_majority(set, word(area + NODES));
 }
 
-/* ---- Requests of 32 nodes, a byte each ----
- *
- * Those in range are 0 to 15, with an upper half of 0, and NO_REQUEST, which has all bits set: so
- * the top bit tells the two apart. */
+/* ---- Requests of 32 nodes, a byte each (packet.h) ---- */
 
 static int requests_hold(const uint8_t *requests)
 {
@@ -178,16 +127,6 @@ static int requests_hold(const uint8_t *requests)
     return wrong == 0;
 }
 
-/* The nodes with a request, of requests in range. */
-static uint32_t requesters(const uint8_t *requests)
-{
-    uint32_t found = 0;
-    unsigned j;
-    for (j = 0; j < TOP_NODES; j += 8)
-        found |= gathered(top_bits(eight(requests + j)) ^ EACH) << j;
-    return found;
-}
-
 /* Some node has one request here and another there (refusal 13). */
 static int requests_clash(const uint8_t *known, const uint8_t *sent)
 {
@@ -199,16 +138,6 @@ static int requests_clash(const uint8_t *known, const uint8_t *sent)
         clash |= (one ^ other) & both * 0xFF;
     }
     return clash != 0;
-}
-
-/* Requests that don't clash are joined by an `and`: NO_REQUEST has all bits set. */
-static void join_requests(uint8_t *known, const uint8_t *sent)
-{
-    unsigned j;
-    for (j = 0; j < TOP_NODES; j += 8) {
-        uint64_t joined = eight(known + j) & eight(sent + j);
-        memcpy(known + j, &joined, sizeof joined);
-    }
 }
 
 /* ---- Masks (docs/node-area.md) ---- */

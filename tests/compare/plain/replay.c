@@ -1,4 +1,4 @@
-/* replay.c: the run of a script in plain C, in place on masks.
+/* replay.c: the run of a script in plain C, in place on masks and on the lent packet area.
  *
  * It follows docs/specification.md (the numbers in brackets are its sections). It is a yardstick
  * for the speed of hydra_replay and one more implementation for its tests; nothing of it is
@@ -11,8 +11,9 @@
 #include <string.h>
 
 #include "hydra-desk.h"
+#include "packet.h"
 
-enum { NODES = HYDRA_TOP_NODES, SLOTS = HYDRA_TOP_SLOTS, TOP_SENDS = 8, NO_REQUEST = 255 };
+enum { NODES = HYDRA_TOP_NODES, SLOTS = HYDRA_TOP_SLOTS, TOP_SENDS = 8 };
 enum { TOP_SCRIPT = 40000, ROOM_FACTOR = 9, ROOM_MORE = 30000 };
 
 /* Of each node the slots that it has, in two words, and their number (2). */
@@ -32,11 +33,6 @@ struct node {
     struct masks schedule, determined;
 };
 
-struct packet {
-    uint32_t sender, lowest, highest, flags, known;
-    uint8_t requests[NODES];
-};
-
 struct site {
     uint32_t nodes, slots, rounds, often, split;
     uint32_t place, distribution, packets;
@@ -45,18 +41,8 @@ struct site {
     size_t windows_length;
     uint8_t sent[NODES]; /* packets of each node in this negotiation */
     struct node node[NODES];
-    struct packet packet[TOP_SENDS * NODES];
+    uint8_t *area; /* lent: the packets of this negotiation, 45 bytes each */
 };
-
-static uint32_t single(uint32_t node)
-{
-    return (uint32_t)1 << (node - 1);
-}
-
-static uint32_t all_of(uint32_t nodes)
-{
-    return 0xFFFFFFFF >> (NODES - nodes);
-}
 
 static int are_enough(const struct site *site, uint32_t set)
 {
@@ -190,35 +176,38 @@ static void set_version(struct node *node, uint32_t version)
     node->version = version;
 }
 
+static uint8_t *packet_at(const struct site *site, uint32_t index)
+{
+    return site->area + index * HYDRA_PACKET_SIZE;
+}
+
 static void send(struct site *site, uint32_t number)
 {
     const struct node *node = &site->node[number - 1];
-    struct packet *packet = &site->packet[site->packets++];
+    uint8_t *packet = packet_at(site, site->packets++);
     site->sent[number - 1]++;
-    packet->sender = number;
-    packet->lowest = node->lowest;
-    packet->highest = node->highest;
-    packet->flags = node->merged;
-    packet->known = node->known;
-    memcpy(packet->requests, node->requests, NODES);
+    packet[SENDER] = (uint8_t)number;
+    put_word(packet + SENT_LOWEST, node->lowest);
+    put_word(packet + SENT_HIGHEST, node->highest);
+    put_word(packet + SENT_FLAGS, node->merged);
+    memcpy(packet + SENT_REQUESTS, node->requests, NODES);
 }
 
-static void hear(struct node *node, uint32_t number, const struct packet *packet)
+static void hear(struct node *node, uint32_t number, const uint8_t *packet)
 {
-    unsigned j;
-    node->heard |= packet->known;
-    if ((node->merged & single(packet->sender)) == 0 || (packet->flags & single(number)) == 0)
+    uint32_t known = requesters(packet + SENT_REQUESTS), flags = word(packet + SENT_FLAGS);
+    uint32_t lowest = word(packet + SENT_LOWEST), highest = word(packet + SENT_HIGHEST);
+    node->heard |= known;
+    if ((node->merged & single(packet[SENDER])) == 0 || (flags & single(number)) == 0)
         return;
-    node->met |= packet->known;
-    node->known |= packet->known;
-    node->merged |= packet->flags;
-    if (packet->lowest < node->lowest)
-        node->lowest = packet->lowest;
-    if (packet->highest > node->highest)
-        node->highest = packet->highest;
-    /* NO_REQUEST has all bits set. */
-    for (j = 0; j < NODES; j++)
-        node->requests[j] &= packet->requests[j];
+    node->met |= known;
+    node->known |= known;
+    node->merged |= flags;
+    if (lowest < node->lowest)
+        node->lowest = lowest;
+    if (highest > node->highest)
+        node->highest = highest;
+    join_requests(node->requests, packet + SENT_REQUESTS);
 }
 
 /* 3.2 */
@@ -433,9 +422,9 @@ static uint32_t on_hear(struct site *site, uint32_t number, uint32_t with)
         return refused;
     if (with - 1 >= site->packets)
         return HYDRA_NO_PACKET;
-    if (site->packet[with - 1].sender == number)
+    if (packet_at(site, with - 1)[SENDER] == number)
         return HYDRA_OWN_PACKET;
-    hear(&site->node[number - 1], number, &site->packet[with - 1]);
+    hear(&site->node[number - 1], number, packet_at(site, with - 1));
     return HYDRA_DONE;
 }
 
@@ -714,8 +703,8 @@ static uint8_t *put_rows(uint8_t *out, const struct site *site)
 }
 
 /* The whole listing of a script that is not too long: its end. */
-static uint8_t *run(const uint8_t *script, size_t length, uint8_t *out, uint32_t day,
-                    const struct hydra_window *windows, size_t windows_length)
+static uint8_t *run(const uint8_t *script, size_t length, uint8_t *area, uint8_t *out,
+                    uint32_t day, const struct hydra_window *windows, size_t windows_length)
 {
     struct text text = {script, script + length, 0};
     struct site site;
@@ -728,6 +717,7 @@ static uint8_t *run(const uint8_t *script, size_t length, uint8_t *out, uint32_t
         answer = table(&text, &site);
     if (answer != HYDRA_DONE)
         return put_refusal(out, text.line, answer);
+    site.area = area;
     site.day = day;
     site.windows = windows;
     site.windows_length = windows_length;
@@ -742,18 +732,18 @@ static uint8_t *run(const uint8_t *script, size_t length, uint8_t *out, uint32_t
     return put_rows(out, &site);
 }
 
-uint32_t plain_replay(const uint8_t *script, size_t script_length, uint8_t *out,
-                      size_t out_length, uint32_t *length, uint32_t day,
-                      const struct hydra_window *windows, size_t windows_length)
+uint32_t plain_replay(const uint8_t *script, size_t script_length, uint8_t *area,
+                      size_t area_length, uint8_t *out, size_t out_length, uint32_t *length,
+                      uint32_t day, const struct hydra_window *windows, size_t windows_length)
 {
     size_t shorter = script_length < TOP_SCRIPT ? script_length : TOP_SCRIPT;
     uint8_t *end;
     if (out_length < ROOM_FACTOR * shorter + ROOM_MORE)
         return HYDRA_NO_ROOM;
-    if (script_length > TOP_SCRIPT)
+    if (script_length > TOP_SCRIPT || area_length < HYDRA_PACKETS_SIZE)
         end = put(out, "line refusal\n0 15\n");
     else
-        end = run(script, script_length, out, day, windows, windows_length);
+        end = run(script, script_length, area, out, day, windows, windows_length);
     *length = (uint32_t)(end - out);
     return HYDRA_DONE;
 }

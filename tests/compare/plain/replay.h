@@ -1,7 +1,7 @@
 /* replay.h: the run of a script in plain C, to be measured beside hydra_replay.
  *
- * It takes a script, an output, a day and windows as that call does, gives the same answer, and
- * writes the same listing. It keeps its packets itself. */
+ * It takes what that call takes, gives the same answer, and leaves the same bytes in the packet
+ * area and the output. */
 #ifndef PLAIN_REPLAY_H
 #define PLAIN_REPLAY_H
 
@@ -10,8 +10,8 @@
 
 #include "hydra.h"
 
-uint32_t plain_replay(const uint8_t *script, size_t script_length, uint8_t *out,
-                      size_t out_length, uint32_t *length, uint32_t day,
-                      const struct hydra_window *windows, size_t windows_length);
+uint32_t plain_replay(const uint8_t *script, size_t script_length, uint8_t *area,
+                      size_t area_length, uint8_t *out, size_t out_length, uint32_t *length,
+                      uint32_t day, const struct hydra_window *windows, size_t windows_length);
 
 #endif

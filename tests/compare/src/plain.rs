@@ -61,6 +61,8 @@ extern "C" {
     fn plain_replay(
         script: *const u8,
         script_length: usize,
+        area: *mut u8,
+        area_length: usize,
         out: *mut u8,
         out_length: usize,
         length: *mut u32,
@@ -183,13 +185,14 @@ fn slots(area: &[u8], output: &mut [u8]) -> u32 {
 }
 
 /// Writes the listing of a script to the start of the output, and its length.
-pub fn replay(script: &[u8], output: &mut [u8], length: &mut u32) -> u32 {
-    replay_day(script, output, length, 1, &[])
+pub fn replay(script: &[u8], area: &mut [u8], output: &mut [u8], length: &mut u32) -> u32 {
+    replay_day(script, area, output, length, 1, &[])
 }
 
 /// As [`replay`], with a day and windows.
 pub fn replay_day(
     script: &[u8],
+    area: &mut [u8],
     output: &mut [u8],
     length: &mut u32,
     day: u32,
@@ -199,6 +202,8 @@ pub fn replay_day(
         plain_replay(
             script.as_ptr(),
             script.len(),
+            area.as_mut_ptr(),
+            area.len(),
             output.as_mut_ptr(),
             output.len(),
             length,

@@ -82,15 +82,21 @@ impl Run<'_> {
         );
         assert!(lent_area.is(&area_after), "the packet area after\n{text}");
         assert!(script.is(self.script), "a changed script:\n{text}");
-        // In plain C the packets are the call's own.
-        if self.area >= AREA_LENGTH {
-            let mut lent_output = Lent::new(&output);
-            let mut length = before;
-            let output = lent_output.contents_mut();
-            let answer = compare::plain::replay(self.script, output, &mut length);
-            assert_eq!((answer, length), (refusal, length_after), "{text}");
-            assert!(lent_output.is(&output_after), "plain C on\n{text}");
-        }
+        let mut plain_area = Lent::new(&area);
+        let mut plain_output = Lent::new(&output);
+        let mut length = before;
+        let answer = compare::plain::replay(
+            self.script,
+            plain_area.contents_mut(),
+            plain_output.contents_mut(),
+            &mut length,
+        );
+        assert_eq!((answer, length), (refusal, length_after), "{text}");
+        assert!(plain_output.is(&output_after), "plain C on\n{text}");
+        assert!(
+            plain_area.is(&area_after),
+            "plain C's packet area after\n{text}"
+        );
         printed
     }
 }

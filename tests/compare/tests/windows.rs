@@ -15,9 +15,9 @@ use reference::windows::{due, require_windows, Window};
 /// Runs a script in both implementations and in plain C, and returns what was
 /// printed.
 fn compare(random: &mut Random, script: &[u8], day: u32, list: &[Window]) -> Vec<u8> {
-    let mut area = inputs::bytes(random, AREA_LENGTH);
+    let before = inputs::bytes(random, AREA_LENGTH);
     let output = inputs::bytes(random, room(script.len()));
-    let mut lent_area = Lent::new(&area);
+    let mut lent_area = Lent::new(&before);
     let mut lent_output = Lent::new(&output);
     let mut length = 0;
     let answer = calls::replay_day(
@@ -28,6 +28,7 @@ fn compare(random: &mut Random, script: &[u8], day: u32, list: &[Window]) -> Vec
         day,
         list,
     );
+    let mut area = before.clone();
     let printed = replay_day(script, &mut area, day, list);
     let mut output_after = output.clone();
     output_after[..printed.len()].copy_from_slice(&printed);
@@ -44,10 +45,17 @@ fn compare(random: &mut Random, script: &[u8], day: u32, list: &[Window]) -> Vec
         String::from_utf8_lossy(&printed)
     );
     assert!(lent_area.is(&area), "the packet area after\n{text}");
-    // In plain C the packets are the call's own.
+    let mut plain_area = Lent::new(&before);
     let mut plain_output = Lent::new(&output);
     length = 0;
-    let answer = plain::replay_day(script, plain_output.contents_mut(), &mut length, day, list);
+    let answer = plain::replay_day(
+        script,
+        plain_area.contents_mut(),
+        plain_output.contents_mut(),
+        &mut length,
+        day,
+        list,
+    );
     assert_eq!(
         (answer, length as usize),
         (0, printed.len()),
@@ -57,6 +65,7 @@ fn compare(random: &mut Random, script: &[u8], day: u32, list: &[Window]) -> Vec
         plain_output.is(&output_after),
         "plain C on\n{text}\n{day} {list:?}"
     );
+    assert!(plain_area.is(&area), "plain C's packet area after\n{text}");
     printed
 }
 

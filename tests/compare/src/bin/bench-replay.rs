@@ -153,11 +153,19 @@ fn second(case: &Case) -> impl FnMut() + '_ {
 }
 
 fn in_plain_c(case: &Case) -> impl FnMut() + '_ {
+    let mut area = vec![0; AREA_LENGTH];
     let mut output = vec![0; scripts::room(case.script.len())];
     move || {
         let mut length = 0;
         let script = black_box(case.script.as_slice());
-        let answer = plain::replay_day(script, &mut output, &mut length, case.day, &case.windows);
+        let answer = plain::replay_day(
+            script,
+            &mut area,
+            &mut output,
+            &mut length,
+            case.day,
+            &case.windows,
+        );
         assert_eq!(answer, 0);
         black_box(&output);
     }
