@@ -16,12 +16,12 @@ pub fn reasons_room(script_length: usize) -> usize {
     4 * script_length.min(MAX_SCRIPT) + 100
 }
 
-fn settings(nodes: u32, slots: u32, rounds: u32) -> Settings {
+pub fn settings(nodes: u32, slots: u32, rounds: u32) -> Settings {
     Settings::new(nodes, slots, rounds, 1, 0).expect("settings in range")
 }
 
 /// All nodes at version 1 with full flags; their demands differ.
-fn table(settings: &Settings) -> Vec<Row> {
+pub fn table(settings: &Settings) -> Vec<Row> {
     (1..=settings.nodes())
         .map(|node| Row {
             node,
@@ -70,8 +70,8 @@ fn rounds(round: Vec<Event>) -> impl Iterator<Item = Event> {
     round.into_iter().cycle()
 }
 
-/// Every node sends, and every other node hears it.
-pub fn mesh(nodes: u32, rounds_in_epoch: u32, length: usize) -> Vec<u8> {
+/// A round in which every node sends, and every other node hears it.
+pub fn mesh_round(nodes: u32) -> Vec<Event> {
     let mut round = Vec::new();
     for sender in 1..=nodes {
         round.push(event(EventKind::Send, sender, 0));
@@ -79,15 +79,20 @@ pub fn mesh(nodes: u32, rounds_in_epoch: u32, length: usize) -> Vec<u8> {
         round.extend(hearers.map(|hearer| event(EventKind::Hear, hearer, sender)));
     }
     round.extend([CLOSE, END]);
-    script(settings(nodes, 80, rounds_in_epoch), rounds(round), length)
+    round
 }
 
-/// Node 1 alone comes to know all requests, and the others take its schedule,
-/// `takes` times each; an epoch has one round.
+pub fn mesh(nodes: u32, rounds_in_epoch: u32, length: usize) -> Vec<u8> {
+    let events = rounds(mesh_round(nodes));
+    script(settings(nodes, 80, rounds_in_epoch), events, length)
+}
+
+/// A round in which node 1 alone comes to know all requests, and the others
+/// take its schedule, `takes` times each.
 ///
 /// The others hear node 1 before it has heard anybody: so it stays in their
 /// flags, and yet they lack requests and do not send.
-pub fn distribution(nodes: u32, takes: u32, length: usize) -> Vec<u8> {
+pub fn distribution_round(nodes: u32, takes: u32) -> Vec<Event> {
     let others = || 2..=nodes;
     let mut round = vec![event(EventKind::Send, 1, 0)];
     round.extend(others().map(|node| event(EventKind::Hear, node, 1)));
@@ -98,12 +103,22 @@ pub fn distribution(nodes: u32, takes: u32, length: usize) -> Vec<u8> {
         round.extend(others().map(|node| event(EventKind::Take, node, 1)));
     }
     round.push(END);
-    script(settings(nodes, 80, 1), rounds(round), length)
+    round
 }
 
-/// Closes and ends, with nothing between them.
+/// Such rounds; an epoch has one.
+pub fn distribution(nodes: u32, takes: u32, length: usize) -> Vec<u8> {
+    let events = rounds(distribution_round(nodes, takes));
+    script(settings(nodes, 80, 1), events, length)
+}
+
+/// A close and an end, with nothing between them.
+pub fn silent_round() -> Vec<Event> {
+    vec![CLOSE, END]
+}
+
 pub fn silence(nodes: u32, length: usize) -> Vec<u8> {
-    script(settings(nodes, 80, 1), rounds(vec![CLOSE, END]), length)
+    script(settings(nodes, 80, 1), rounds(silent_round()), length)
 }
 
 /// Events of which every one is refused, for one reason or another.

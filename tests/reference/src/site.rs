@@ -261,8 +261,9 @@ impl Site {
     }
 
     /// One event as a desk tool makes it: with windows, a tally of slots held,
-    /// and an output for the reports of a close, which may be empty. Tried on
-    /// copies first: what the site itself refuses comes before tally and list.
+    /// and an output for the reports of a close, which may be empty. What the
+    /// site itself refuses comes before tally and list: where these are wrong,
+    /// the event is tried on copies.
     pub fn apply_kept(
         &mut self,
         area: &mut PacketArea,
@@ -292,21 +293,38 @@ impl Site {
         let Placed { write, read, full } = placed;
         let fits = reports.is_empty() || reports.len() >= REPORTS_LENGTH;
         require(fits, Refusal::Capacity)?;
-        let tried = &mut area.clone();
-        self.clone().apply_placed(tried, event, &[], write, read)?;
-        if event.kind == EventKind::End {
-            tally.require_valid()?;
+        let objection = self.objection(event, windows, tally, full);
+        if objection.is_err() {
+            let tried = &mut area.clone();
+            self.clone().apply_placed(tried, event, &[], write, read)?;
+            return objection;
         }
-        require_windows(&self.settings, self.day, windows)?;
-        require(event.kind != EventKind::Send || !full, Refusal::Crowded)?;
-        if event.kind == EventKind::Close && !reports.is_empty() {
-            reports[..REPORTS_LENGTH].copy_from_slice(&self.grounds());
-        }
+        let told = event.kind == EventKind::Close && !reports.is_empty();
+        let grounds = told.then(|| self.grounds());
         self.apply_placed(area, event, windows, write, read)?;
+        if let Some(grounds) = grounds {
+            reports[..REPORTS_LENGTH].copy_from_slice(&grounds);
+        }
         if event.kind == EventKind::End && self.place == 0 {
             tally.count(self);
         }
         Ok(())
+    }
+
+    /// What an event has against its tally, its list of windows and the places
+    /// of its group.
+    fn objection(
+        &self,
+        event: Event,
+        windows: &[Window],
+        tally: &Tally,
+        full: bool,
+    ) -> Result<(), Refusal> {
+        if event.kind == EventKind::End {
+            tally.require_valid()?;
+        }
+        require_windows(&self.settings, self.day, windows)?;
+        require(event.kind != EventKind::Send || !full, Refusal::Crowded)
     }
 
     /// The grounds of a close now: two bytes for each node, 0 for one that is
