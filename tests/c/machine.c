@@ -1,5 +1,5 @@
-/* A site in lent memory with windows, tally and reports together. A month with windows is the month in which each box is given its wants by hand;
- * the reports of each close are what hydra_why tells of the same script; each refusal comes in its order, and changes nothing.
+/* A site in lent memory with windows, tally and reports together. A month with windows is the month in which each box is given its wants by hand,
+ * and the month in which the windows are lent to the ends alone; the reports of each close are what hydra_why tells of the same script; each refusal comes in its order, and changes nothing.
  * Exit status 0 only if all is as written here. */
 #include <string.h>
 
@@ -22,7 +22,7 @@ struct site {
     struct hydra_tally tally;
 };
 
-static struct site lent, plain;
+static struct site lent, plain, sparing;
 
 static uint32_t load(struct site *s, uint32_t day, const struct hydra_window *list, size_t length)
 {
@@ -54,10 +54,13 @@ static uint32_t below(uint32_t n)
     return (seed >> 16) % n;
 }
 
-/* The same event at both sites, with windows at one of them. */
-static void both(uint32_t number, uint32_t node, uint32_t with)
+/* The same event at all sites, with windows at the first, and at the third where it is an end. */
+static void all(uint32_t number, uint32_t node, uint32_t with)
 {
-    EXPECT(event(&lent, number, node, with, WINDOWS) == event(&plain, number, node, with, NONE));
+    size_t length = number == HYDRA_END ? sizeof windows / sizeof windows[0] : 0;
+    uint32_t answer = event(&lent, number, node, with, WINDOWS);
+    EXPECT(event(&plain, number, node, with, NONE) == answer);
+    EXPECT(event(&sparing, number, node, with, windows, length) == answer);
 }
 
 /* The wants of an epoch, by hand: a box that is down refuses its want. */
@@ -75,6 +78,7 @@ static void month(void)
 {
     uint32_t loaded[3 * NODES];
     EXPECT(load(&lent, DAY, WINDOWS) == HYDRA_DONE);
+    EXPECT(load(&sparing, DAY, WINDOWS) == HYDRA_DONE);
     memcpy(loaded, rows, sizeof loaded);
     loaded[2] = 7; /* the demands of epoch 0 */
     loaded[8] = 0;
@@ -83,25 +87,26 @@ static void month(void)
     for (uint32_t epoch = 1; epoch <= EPOCHS; epoch++) {
         for (int round = 0; round < ROUNDS; round++) {
             for (uint32_t j = 1; j <= NODES; j++)
-                both(HYDRA_SEND, j, 0);
+                all(HYDRA_SEND, j, 0);
             for (uint32_t j = 1; j <= NODES; j++)
                 for (uint32_t p = 1; p <= NODES; p++)
                     if (below(20))
-                        both(HYDRA_HEAR, j, p);
+                        all(HYDRA_HEAR, j, p);
             if (below(40) == 0)
-                both(HYDRA_CRASH, 1 + below(NODES), 0);
-            both(HYDRA_CLOSE, 0, 0);
+                all(HYDRA_CRASH, 1 + below(NODES), 0);
+            all(HYDRA_CLOSE, 0, 0);
             for (uint32_t j = 1; j <= NODES; j++)
-                both(HYDRA_TAKE, j, 1 + below(NODES));
+                all(HYDRA_TAKE, j, 1 + below(NODES));
             if (below(4) == 0)
                 for (uint32_t j = 1; j <= NODES; j++)
-                    both(HYDRA_RESTART, j, 1u << (j - 1) | 1);
+                    all(HYDRA_RESTART, j, 1u << (j - 1) | 1);
             if (round == ROUNDS - 1)
                 wants(epoch % DAY);
-            both(HYDRA_END, 0, 0);
+            all(HYDRA_END, 0, 0);
         }
         same_boxes();
         EXPECT(memcmp(&lent.tally, &plain.tally, sizeof lent.tally) == 0);
+        EXPECT(memcmp(&lent, &sparing, sizeof lent) == 0);
     }
     EXPECT(lent.tally.epochs == EPOCHS + 1 && lent.tally.total > 0);
 }
