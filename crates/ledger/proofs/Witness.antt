@@ -154,7 +154,7 @@ next s l L End h =
       words = omega (arith, g .words, length-set (t .words) atPlace (placeAfter (siteIn s)));
       bytes = omega (arith, g .bytes, grows (t .bytes) (noneSent ++ (1 ∷ [])) atSent);
     }
-next s l L (Want j d) h = front s (j - 1) _
+next s l L (Want j d) h = record { words = omega arith; bytes = omega (arith, length-set (s .bytes) (nodeBytesAt (j - 1) + 1) d) }
 next s l L (Crash j) h = put s L (j - 1) (inside (siteIn s .config) j (crash-accepted (siteIn s) j h .node)) _ Free
 next s l L (Restart j flags) h = put s L (j - 1) (inside (siteIn s .config) j (restart-accepted (siteIn s) j flags h .node)) _ Free
 

@@ -8,9 +8,8 @@ use mathlib.Core.Bool.{Bool, true, false, cond}
 use mathlib.Core.Logic.{_≢_}
 use borrow.Author.Tests.{ltb-true, ltb-false, lt-ltb}
 use lib.Dec.{ltb, eqb}
-use lib.ListN.{getD, set, length-set}
-use lib.Seq.{ext-getD, getD-set-same, getD-set-other}
-use Rattle.words.proofs.Tests.{same-or-not, hit}
+use lib.ListN.{getD, set}
+use Rattle.words.proofs.Tests.{hit}
 use Rattle.masks.specs.Bytes.{masksSize}
 use Rattle.allotment.specs.InPlace.{heldIn}
 use Rattle.allotment.proofs.Held.{held-alike}
@@ -24,21 +23,9 @@ use Rattle.machine.specs.Layout.{atConfig}
 use Rattle.machine.specs.Layout.{atPlace, atSent, atPhase, configAt, nodeIn, storedIn, configIn, memberIn, siteIn}
 use Rattle.lists.specs.All.{tab}
 use Rattle.lists.specs.Bytes.{window}
-use Rattle.lists.proofs.Laws.{getD-tab, length-tab, tab-ext}
+use Rattle.lists.proofs.Laws.{tab-ext}
 use Rattle.lists.proofs.Places.{Apart}
-
--- one element of a list by its rule is another
-pub set-tab : (n : ℕ) (f g : ℕ → Member) (i : ℕ) (m : Member) → i < n → g i ≡ m → ((k : ℕ) → k ≢ i → g k ≡ f k) → tab n g
-    ≡ set (tab n f) i m
-set-tab n f g i m h e d =
-    ext-getD nobody (tab n g) (set (tab n f) i m) (length-tab n g ∙ sym (length-set (tab n f) i m ∙ length-tab n f))
-    (λ k j.
-    let l : k < n = omega (arith, length-tab n g) in
-    getD-tab nobody n g k l
-    ∙ same-or-not k i
-    (λ z. ap g z ∙ e ∙ sym (ap (λ (x : ℕ). getD (set (tab n f) i m) x nobody) z
-    ∙ getD-set-same (tab n f) i m nobody (omega (arith, length-tab n f))))
-    (λ z. d k z ∙ sym (getD-set-other (tab n f) i k m nobody z ∙ getD-tab nobody n f k l)))
+use Rattle.windows.proofs.Demands.{tab-set}
 
 -- what differs in a part differs in a larger one
 pub apart-within : {l m : List ℕ} (at n : ℕ) {to k : ℕ} → to ≤ at → at + n ≤ to + k → Apart l m at n → Apart l m to k
@@ -170,5 +157,5 @@ module _ {s t : Store} (i : ℕ) (p : Apart (s .words) (t .words) (nodeWordsAt i
       site-put m g e =
           let n : memberIn t i ≡ m = hit (ltb i (configIn t .nodes)) (storedIn t i) (downMember (configIn t) (i + 1))
           (ap (λ (f : Config). ltb i (f .nodes)) config-same ∙ lt-ltb i (configIn s .nodes) g) ∙ e in
-          let l = set-tab 32 (memberIn s) (memberIn t) i m h n (λ k d. member-same k d) in
+          let l = sym (tab-set nobody 32 (memberIn s) (memberIn t) (tab 32 (memberIn s)) i m refl h (sym n) (λ k _ d. sym (member-same k d))) in
           λ x. record { config = config-same x; negotiates = eqb (phase-same x) 1; place = place-same x; sent = sent-same x; members = l x }

@@ -3,6 +3,7 @@ pub mod Turns
 pub mod Laws
 pub mod Owned
 pub mod Back
+pub mod Demanded
 pub mod Seats
 pub mod Tail
 pub mod Moves

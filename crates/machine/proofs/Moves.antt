@@ -23,11 +23,9 @@ use Rattle.node.specs.Close.{closedNode, closeAnswer}
 use Rattle.node.specs.Distribution.{sentBy, takenNode}
 use Rattle.node.specs.End.{endedNode, endAnswer}
 use Rattle.node.specs.Negotiation.{heardNode}
-use Rattle.node.specs.Steps.{wantedNode}
 use Rattle.node.specs.Core.{coreOf, bare, coreClosed, coreEnded, coreTaken, takeMoveBy}
 use Rattle.node.specs.InPlace.{behind, movedIn}
 use Rattle.node.proofs.Cores.{holding, close-moved, end-moved, take-moved, take-change, hear-moved}
-use Rattle.node.proofs.Bare.{want-moved}
 use Rattle.node.proofs.Made.{carries}
 use Rattle.node.proofs.Moved.{copied-held}
 use Rattle.node.specs.declared.Core.{Core}
@@ -168,12 +166,9 @@ module _ (m : Member) where
   pub end-refused : m .up ≡ true → isDone (endAnswer (m .node)) ≡ false → endMember m ≡ m
   end-refused h d = hit _ _ _ h ∙ ap (withNode m) (skip _ _ _ _ d refl)
 
--- the core that a hear leaves, and a want
+-- the core that a hear leaves
 pub heard-core : (n : Node) (q : Packet) → coreOf (heardNode (bare (coreOf n)) q) ≡ coreOf (heardNode n q)
 heard-core n q = ap coreOf (hear-moved n q)
-
-pub wanted-core : (n : Node) (d : ℕ) → coreOf (wantedNode (bare (coreOf n)) d) ≡ coreOf (wantedNode n d)
-wanted-core n d = ap coreOf (want-moved n d)
 
 -- a next core written back is its node's numbers written: these look at no schedule
 pub next-put : (s : Store) (i : ℕ) {next : Core} (n : Node) → next ≡ coreOf n → nextPut s i next

@@ -3,3 +3,4 @@ pub mod Laws
 pub mod Given
 pub mod Stored
 pub mod Known
+pub mod Byte

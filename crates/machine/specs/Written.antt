@@ -4,7 +4,7 @@
 -- Assumes nothing.
 use mathlib.Core.Bool.{Bool, cond, _&&_, _||_}
 use mathlib.Core.List.{List, [], _∷_, _++_}
-use Prim.Native.Nat.{ℕ, min, _-_}
+use Prim.Native.Nat.{ℕ, min, _+_, _-_}
 use lib.Dec.{eqb}
 use lib.ListN.{set}
 use Rattle.lists.specs.All.{iter}
@@ -37,6 +37,10 @@ writtenMoved s i m v = store (written (s .words) (nodeWordsAt i) (nodeWords (m .
 -- a member with all slots free
 abbrev pub writtenFree : Store → ℕ → Member → Store
 writtenFree s i m = writtenMoved s i m Free
+
+-- another demand of the node at index i: one byte
+abbrev pub demanded : Store → ℕ → ℕ → Store
+demanded s i d = store (s .words) (set (s .bytes) (nodeBytesAt i + 1) d)
 
 -- the member of number j, with all slots free; storage that is too short, and a number of none of the N nodes, write nothing
 unfoldable pub memberPut : Store → ℕ → Member → Store

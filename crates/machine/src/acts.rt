@@ -15,6 +15,7 @@ use crate::read::header_at;
 use crate::read::is_up;
 use crate::read::version_at;
 use crate::write::move_schedules;
+use crate::write::put_demand;
 use crate::write::put_front;
 use crate::write::put_row;
 use node::Answer;
@@ -92,16 +93,13 @@ pub fn hear(words: &mut [u32], bytes: &mut [u8], j: u32, q: Packet)
 }
 
 // It has another demand.
-pub fn want(words: &mut [u32], bytes: &mut [u8], j: u32, d: u8)
-    ensures { λ _. ⌜ now (words .exit) ≡ wantedPut (store (now (words .entry)) (now (bytes .entry))) j d .words ⌝ }
+pub fn want(words: &[u32], bytes: &mut [u8], j: u32, d: u8)
     ensures { λ _. ⌜ now (bytes .exit) ≡ wantedPut (store (now (words .entry)) (now (bytes .entry))) j d .bytes ⌝ }
 {
     if no_node(words, bytes, j) {
         return;
     }
-    let i = site::node_index(j);
-    let c = core_at(words, bytes, i);
-    put_next(words, bytes, i, c.want(d));
+    put_demand(bytes, site::node_index(j), d);
 }
 
 // The node at an index takes the version and schedule of the node at another.

@@ -76,10 +76,9 @@ fn take(words: &mut [u32], bytes: &mut [u8], j: u32, g: u32)
 }
 
 // Node j has another demand.
-fn want(words: &mut [u32], bytes: &mut [u8], j: u32, d: u32)
+fn want(words: &[u32], bytes: &mut [u8], j: u32, d: u32)
     requires { ⌜ (wordsSize ≤ length (now words)) × (bytesSize ≤ length (now bytes))
         × (siteWant (siteIn (store (now words) (now bytes))) j d ≡ Done) ⌝ }
-    ensures { λ _. ⌜ now (words .exit) ≡ wantedStore (store (now (words .entry)) (now (bytes .entry))) j d .words ⌝ }
     ensures { λ _. ⌜ now (bytes .exit) ≡ wantedStore (store (now (words .entry)) (now (bytes .entry))) j d .bytes ⌝ }
 {
     crate::acts::want(words, bytes, j, d as u8);

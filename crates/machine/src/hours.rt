@@ -2,21 +2,26 @@
 // end.
 ghost use mathlib.Core.Path.{_≡_};
 ghost use mathlib.Core.Bool.{true};
-ghost use Prim.Native.Nat.{min, _<_};
+ghost use Prim.Native.Nat.{_≤_, _<_};
+ghost use lib.ListN.{length};
 ghost use Rattle.windows.specs.Windows.{listOk};
 ghost use Rattle.windows.specs.Copies.{windowsIn};
-ghost use Rattle.site.specs.Members.{headerOf, setupOf};
+ghost use Rattle.site.specs.Members.{headerOf};
 ghost use Rattle.node.specs.Figures.{isLast};
 ghost use Rattle.site.specs.declared.Event.the-variants.{End};
-ghost use Rattle.machine.specs.Layout.{store, siteIn};
+ghost use Rattle.machine.specs.Layout.{store, siteIn, bytesSize};
 ghost use Rattle.machine.specs.steps.After.{areaWith};
-ghost use Rattle.machine.specs.hours.Hours.{nextInDay, givenRow, givenTable};
-ghost use Rattle.machine.specs.hours.Stored.{storedLoad, timedLoadedStore, timedLoadedSite, givenAt, givenStore, dayAnswer};
+ghost use Rattle.machine.specs.hours.Hours.{givenTable};
+ghost use Rattle.machine.specs.hours.Stored.{storedLoad, timedLoadedStore, timedLoadedSite, givenStore, dayAnswer};
 ghost use Rattle.machine.specs.hours.Stored.{begunStore};
 ghost use Rattle.machine.specs.hours.Stored.{timedStore, timedSite, turnedBy, storeBy};
-ghost use Rattle.machine.specs.hours.Inner.{dayBegun, listVerdict};
+ghost use Rattle.machine.specs.hours.Inner.{rowGiven, demandGiven, dayBegun, listVerdict};
 use crate::Day;
 use crate::DayAnswer;
+use crate::layout::BYTES;
+use crate::layout::WORDS;
+use crate::read::is_up;
+use crate::write::put_demand;
 use node::Answer;
 use node::Config;
 use site::Event;
@@ -24,12 +29,16 @@ use site::Row;
 use site::SiteHeader;
 use site::Table;
 
-// A row as the first epoch begins.
-fn given_row(w: &[u32], nodes: u32, day: u32, j: u32, row: Row) -> Row
-    requires { ⌜ listOk nodes day (windowsIn (now w)) ≡ true ⌝ }
-    ensures { λ r. ⌜ r ≡ givenRow (windowsIn (now (w .entry))) j row ⌝ }
+// What stands for the demand of a node without windows. No demand is as large, so such a node keeps its own.
+const NO_DEMAND: u32 = 16;
+
+// A row with a demand, or with its own where that is none.
+fn given_row(row: Row, d: u32) -> Row
+    ensures { λ r. ⌜ r ≡ rowGiven row d ⌝ }
 {
-    let d = windows::due_at(w, j, 0, row.want as u32);
+    if (allotment::TOP_REQUEST as u32) < d {
+        return row;
+    }
     Row {
         version: row.version,
         flags: row.flags,
@@ -42,11 +51,12 @@ fn given_table(w: &[u32], nodes: u32, day: u32, t: Table) -> Table
     requires { ⌜ listOk nodes day (windowsIn (now w)) ≡ true ⌝ }
     ensures { λ r. ⌜ r ≡ givenTable (windowsIn (now (w .entry))) t ⌝ }
 {
+    let demands = windows::due_all(w, 0, NO_DEMAND);
     let list = t.rows;
     let mut rows = list;
     for i in 0..32usize {
         let row = list[i];
-        rows[i] = given_row(w, nodes, day, i as u32 + 1, row);
+        rows[i] = given_row(row, demands[i]);
     }
     Table { rows }
 }
@@ -90,35 +100,40 @@ pub fn load(
     DayAnswer { answer, day }
 }
 
-// The demand of an epoch for the node at an index.
-fn give_one(words: &mut [u32], bytes: &mut [u8], area: &mut [u8], w: &[u32], epoch: u32, i: u32)
-    requires { ⌜ i < 32 ⌝ }
-    ensures { λ _. ⌜ now (words .exit)
-        ≡ givenAt (windowsIn (now (w .entry))) epoch (now (area .entry)) i (store (now (words .entry)) (now (bytes .entry))) .words ⌝ }
-    ensures { λ _. ⌜ now (bytes .exit)
-        ≡ givenAt (windowsIn (now (w .entry))) epoch (now (area .entry)) i (store (now (words .entry)) (now (bytes .entry))) .bytes ⌝ }
-    ensures { λ _. ⌜ now (area .exit) ≡ now (area .entry) ⌝ }
+// A demand for the node at an index, if the node is up. A number that is no demand is given to none.
+fn give_one(bytes: &mut [u8], i: usize, d: u32)
+    requires { ⌜ (i < 32) × (bytesSize ≤ length (now bytes)) ⌝ }
+    ensures { λ _. ⌜ now (bytes .exit) ≡ demandGiven (now (bytes .entry)) i d ⌝ }
 {
-    let c = crate::look::core(words, bytes, i + 1);
-    let d = windows::due_at(w, i + 1, epoch, c.demand as u32);
-    crate::steps::step(words, bytes, area, Event::Want(i + 1, d));
+    let up = is_up(bytes, i);
+    if !((d <= allotment::TOP_REQUEST as u32) & up) {
+        return;
+    }
+    put_demand(bytes, i, d as u8);
 }
 
-// The demands of an epoch, given to the N nodes; an empty list gives none.
-fn give(words: &mut [u32], bytes: &mut [u8], area: &mut [u8], w: &[u32], epoch: u32, nodes: u32)
+// The demands of an epoch, given to the N nodes; an empty list gives none. The list is gone over once, and of a node that is up with windows
+// one byte is written. A node without windows keeps its demand, which needs no reading: it is given what is no demand.
+fn give(words: &[u32], bytes: &mut [u8], area: &[u8], w: &[u32], epoch: u32, nodes: u32)
     requires { ⌜ nodes ≡ siteIn (store (now words) (now bytes)) .config .nodes ⌝ }
-    ensures { λ _. ⌜ now (words .exit)
+    ensures { λ _. ⌜ now (words .entry)
         ≡ givenStore (windowsIn (now (w .entry))) epoch (now (area .entry)) (store (now (words .entry)) (now (bytes .entry))) .words ⌝ }
     ensures { λ _. ⌜ now (bytes .exit)
         ≡ givenStore (windowsIn (now (w .entry))) epoch (now (area .entry)) (store (now (words .entry)) (now (bytes .entry))) .bytes ⌝ }
-    ensures { λ _. ⌜ now (area .exit) ≡ now (area .entry) ⌝ }
 {
     if windows::is_empty(w) {
         return;
     }
-    let top = crate::places(nodes);
-    for i in 0..top {
-        give_one(words, bytes, area, w, epoch, i);
+    if (words.len() < WORDS) | (bytes.len() < BYTES) {
+        return;
+    }
+    if area.len() < SiteHeader::AREA {
+        return;
+    }
+    let demands = windows::due_all(w, epoch, NO_DEMAND);
+    let n = crate::places(nodes) as usize;
+    for i in 0..n {
+        give_one(bytes, i, demands[i]);
     }
 }
 
@@ -131,21 +146,13 @@ fn in_last_round(k: SiteHeader) -> bool
 }
 
 // Where the next epoch begins with an end, its demands are given, and its day begins.
-fn begin(
-    words: &mut [u32],
-    bytes: &mut [u8],
-    area: &mut [u8],
-    k: SiteHeader,
-    day: Day,
-    w: &[u32],
-) -> Day
+fn begin(words: &[u32], bytes: &mut [u8], area: &[u8], k: SiteHeader, day: Day, w: &[u32]) -> Day
     requires { ⌜ k ≡ headerOf (siteIn (store (now words) (now bytes))) ⌝ }
     ensures { λ r. ⌜ r ≡ dayBegun (siteIn (store (now (words .entry)) (now (bytes .entry)))) day ⌝ }
-    ensures { λ _. ⌜ now (words .exit)
+    ensures { λ _. ⌜ now (words .entry)
         ≡ begunStore (store (now (words .entry)) (now (bytes .entry))) day (now (area .entry)) (windowsIn (now (w .entry))) End .words ⌝ }
     ensures { λ _. ⌜ now (bytes .exit)
         ≡ begunStore (store (now (words .entry)) (now (bytes .entry))) day (now (area .entry)) (windowsIn (now (w .entry))) End .bytes ⌝ }
-    ensures { λ _. ⌜ now (area .exit) ≡ now (area .entry) ⌝ }
 {
     if !in_last_round(k) {
         return day;

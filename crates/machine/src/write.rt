@@ -2,7 +2,7 @@
 ghost use mathlib.Core.Path.{_≡_};
 ghost use mathlib.Core.Bool.{true};
 ghost use Prim.Native.Nat.{_+_, _≤_, _<_};
-ghost use lib.ListN.{length};
+ghost use lib.ListN.{length, set};
 ghost use Rattle.lists.specs.Bytes.{written};
 ghost use Rattle.node.specs.Core.{bare};
 ghost use Rattle.node.specs.InPlace.{movedIn};
@@ -101,6 +101,14 @@ pub(crate) fn put_front(bytes: &mut [u8], i: usize, up: bool, c: Core)
     put_small(bytes, room, small);
     put_short(bytes, room + KNOWN, known);
     put_short(bytes, room + COUNTERS, counters);
+}
+
+// Another demand of the node at an index: one byte.
+pub(crate) fn put_demand(bytes: &mut [u8], i: usize, d: u8)
+    requires { ⌜ (i < 32) × (bytesSize ≤ length (now bytes)) ⌝ }
+    ensures { λ _. ⌜ now (bytes .exit) ≡ set (now (bytes .entry)) (nodeBytesAt i + 1) d ⌝ }
+{
+    bytes[NODE_BYTES * i + 1] = d;
 }
 
 // A core's numbers at an index, where its node is up.

@@ -2,10 +2,10 @@
 -- Assumes nothing.
 use mathlib.Core.Bool.{Bool, not, cond, _&&_}
 use mathlib.Core.List.{List}
-use Prim.Native.Nat.{ℕ}
+use Prim.Native.Nat.{ℕ, _+_}
 use lib.Dec.{eqb, ltb, leb}
 use lib.ListN.{length, getD}
-use Rattle.lists.specs.All.{iter, allBelow}
+use Rattle.lists.specs.All.{iter, tab, allBelow}
 use Rattle.allotment.specs.Allotment.{topRequest}
 use Rattle.windows.specs.declared.Window.{Window}
 use Rattle.windows.specs.declared.Looked.{Looked}
@@ -64,6 +64,10 @@ demandAt ws j e = iter (length ws) (λ i d. cond (isDue j e (windowAt ws i)) (wi
 -- the demand of node j as epoch e begins, where it was d: a node without windows keeps it
 unfoldable pub dueAt : List Window → ℕ → ℕ → ℕ → ℕ
 dueAt ws j e d = cond (hasWindows ws j) (demandAt ws j e) d
+
+-- those of 32 nodes, where each was d
+unfoldable pub dueAll : List Window → ℕ → ℕ → List ℕ
+dueAll ws e d = tab 32 (λ i. dueAt ws (i + 1) e d)
 
 -- what a box asks of a list: whether it keeps the rules, and the demand, which stays where it does not
 abbrev pub lookedOf : ℕ → ℕ → List Window → ℕ → ℕ → ℕ → Looked

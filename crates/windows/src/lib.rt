@@ -3,10 +3,10 @@ ghost use mathlib.Core.Path.{_≡_};
 ghost use Prim.Native.Nat.{_<_};
 ghost use lib.Dec.{eqb};
 ghost use lib.ListN.{length};
-ghost use Rattle.lists.specs.All.{allBelow};
+ghost use Rattle.lists.specs.All.{tab, allBelow};
 ghost use mathlib.Core.Bool.{not, cond};
-ghost use Rattle.windows.specs.Windows.{dayOk, windowOk, isDue, overlap, entryOk, listOk, dueAt, lookedOf};
-ghost use Rattle.windows.specs.Inner.{follows, orderedAt, metOf, begunOf, turnOf, toldOf};
+ghost use Rattle.windows.specs.Windows.{dayOk, windowOk, isDue, overlap, entryOk, listOk, dueAll, lookedOf};
+ghost use Rattle.windows.specs.Inner.{follows, orderedAt, metOf, entryOf, dueIn, begunOf, turnOf, toldOf};
 ghost use Rattle.windows.specs.Copies.{windowIn, windowCount, windowsIn, noWindows, withWindow, copyOf, windowWords};
 
 // What a node wants from an epoch of the day up to the one before `end`. The fields lie as C has them.
@@ -205,23 +205,57 @@ struct Due {
     demand: u32,
 }
 
-// The demand of a node as an epoch begins: a node without windows keeps the one it had.
-pub fn due_at(l: &[u32], node: u32, epoch: u32, demand: u32) -> u32
-    ensures { λ r. ⌜ r ≡ dueAt (windowsIn (now (l .entry))) node epoch demand ⌝ }
+// Where a node's number stands in a list of the numbers 0 to 32; that of none of 32 nodes at 0.
+fn entry_of(node: u32) -> usize
+    ensures { λ r. ⌜ r ≡ entryOf node ⌝ }
+    ensures { λ r. ⌜ r < 33 ⌝ }
+{
+    if node <= 32 {
+        return node as usize;
+    }
+    0
+}
+
+// What the list says of each number up to 32 in an epoch: one pass, in which each window changes the entry of its own node.
+fn due_in(l: &[u32], epoch: u32) -> [Due; 33]
+    ensures { λ r. ⌜ r ≡ tab 33 (dueIn (windowsIn (now (l .entry))) epoch (length (windowsIn (now (l .entry))))) ⌝ }
 {
     let n = count(l);
-    let mut s = Due {
+    let none = Due {
         none: true,
         demand: 0,
     };
+    let mut list = [none; 33];
     for i in 0..n {
         let w = window_in(l, i);
-        s = due_after(s, w, node, epoch);
+        let j = entry_of(w.node);
+        let s = list[j];
+        list[j] = due_after(s, w, j as u32, epoch);
     }
+    list
+}
+
+// The demand that is due, and otherwise d.
+fn due_else(s: Due, d: u32) -> u32
+    ensures { λ r. ⌜ r ≡ cond (s .none) d (s .demand) ⌝ }
+{
     if s.none {
-        return demand;
+        return d;
     }
     s.demand
+}
+
+// The demands of 32 nodes as an epoch begins: a node without windows keeps the one it had, here the same for all.
+pub fn due_all(l: &[u32], epoch: u32, demand: u32) -> [u32; 32]
+    ensures { λ r. ⌜ r ≡ dueAll (windowsIn (now (l .entry))) epoch demand ⌝ }
+{
+    let list = due_in(l, epoch);
+    let mut demands = [demand; 32];
+    for i in 0..32usize {
+        let s = list[i + 1];
+        demands[i] = due_else(s, demand);
+    }
+    demands
 }
 
 // What is due after one window more. Most windows are of other nodes, and of those only the node is read.

@@ -8,8 +8,8 @@ use Prim.Native.Nat.{ℕ, suc, _+_, _-_, _≤_, _<_}
 use native.Mathlib.Omega.{arith}
 use borrow.Author.Tests.{lt-ltb, le-ltb, le-leb, ltb-true, ltb-false}
 use lib.Dec.{ltb, leb}
-use lib.ListN.{length, getD, set, length-set}
-use lib.Seq.{ext-getD, getD-set-same, getD-set-other, set-getD}
+use lib.ListN.{length, getD, set}
+use lib.Seq.{ext-getD, set-getD}
 use Rattle.words.proofs.Tests.{hit, skip, same-or-not, both, read-same, by-test}
 use Rattle.lists.specs.All.{tab}
 use Rattle.lists.proofs.Laws.{length-tab, getD-tab, tab-ext}
@@ -25,20 +25,9 @@ use Rattle.site.specs.declared.Event.the-variants.{Want}
 use Rattle.windows.specs.Windows.{listOk, hasWindows, demandAt, dueAt}
 use Rattle.windows.specs.declared.Window.{Window}
 use Rattle.windows.proofs.Laws.{due-given, due-kept, due-range, of-site}
+use Rattle.windows.proofs.Demands.{tab-set}
 use Rattle.machine.specs.hours.Hours.{givenMember, givenSite}
 use Rattle.machine.proofs.hours.Laws.{wanted-same, given-same}
-
--- lists of 32 by their rule, with one element set
-tab-set : {A : Type 0} (d : A) (f g : ℕ → A) (n : ℕ) (y : A) → n < 32 → y ≡ g n → ((i : ℕ) → i ≢ n → f i ≡ g i) → set (tab 32 f) n y
-    ≡ tab 32 g
-tab-set d f g n y l h k =
-    ext-getD d (set (tab 32 f) n y) (tab 32 g) (length-set (tab 32 f) n y ∙ length-tab 32 f ∙ sym (length-tab 32 g))
-    (λ i m.
-    let b : i < 32 = omega (arith, m, length-set (tab 32 f) n y, length-tab 32 f) in
-    same-or-not i n
-    (λ e. ap (λ (j : ℕ). getD (set (tab 32 f) n y) j d) e ∙ getD-set-same (tab 32 f) n y d (omega (arith, l, length-tab 32 f)) ∙ h
-    ∙ ap g (sym e) ∙ sym (getD-tab d 32 g i b))
-    (λ e. getD-set-other (tab 32 f) n i y d e ∙ getD-tab d 32 f i b ∙ k i e ∙ sym (getD-tab d 32 g i b)))
 
 -- for a number other than n, to be below n + 1 is to be below n
 ltb-next : (i n : ℕ) → i ≢ n → ltb i n ≡ ltb i (suc n)
@@ -94,7 +83,7 @@ module _ (ws : List Window) (e : ℕ) (s : Site) where
       ∙ sym (hit (was n .up) (wantedMember (was n) (dueAt ws (n + 1) e (was n .node .demand))) (was n) u)
       ∙ sym (there n) in
       ap (λ (i : ℕ). set (tab 32 (upTo n)) i (wantedMember (memberAt (partSite n) (n + 1)) (demandAt ws (n + 1) e))) q
-      ∙ tab-set nobody (upTo n) (upTo (suc n)) n _ l y (others n)
+      ∙ tab-set nobody 32 (upTo n) (upTo (suc n)) (tab 32 (upTo n)) n _ refl l y (λ i _. others n i)
 
   -- a node that is down, or without windows, stays as it was
   stay-members : (n : ℕ) → n < 32 → given n ≡ was n → tab 32 (upTo n) ≡ tab 32 (upTo (suc n))

@@ -111,17 +111,16 @@ module _ (ok : Bool) (s : Store) (d : Day) (l : List ℕ) (ws : List Window) whe
     refused-list f = refused BadWindows (accepted ∙ skip _ _ _ _ f refl) refl
 
     -- an accepted end, from the storage with the demands of the epoch that begins
-    pub done-tested : ok ≡ true → {g : Store} {o : List ℕ} {n : Day} {w b x : List ℕ} → g ≡ begunStore s d l ws End
-        → n ≡ dayBegun (siteIn s) d → o ≡ l → w ≡ storeAfter g o End .words → b ≡ storeAfter g o End .bytes → x ≡ areaWith g o End
+    pub done-tested : ok ≡ true → {g : Store} {n : Day} {w b x : List ℕ} → g ≡ begunStore s d l ws End
+        → n ≡ dayBegun (siteIn s) d → w ≡ storeAfter g l End .words → b ≡ storeAfter g l End .bytes → x ≡ areaWith g l End
         → TestedIs End Done n w b x
     unfolding dayBy storeBy
-    done-tested f {g} {o} {n} {w} {b} {x} q m j y r v =
+    done-tested f {g} {n} {w} {b} {x} q m y r v =
         let a : answeredBy ok s l End ≡ Done = accepted ∙ hit _ _ _ f in
-        let u : storeAfter g o End ≡ storeBy ok s d l ws End = ap₂ (λ (i : Store) (z : List ℕ). storeAfter i z End) q j
-        ∙ sym (hit _ _ _ (ap isDone a)) in
+        let u : storeAfter g l End ≡ storeBy ok s d l ws End = ap (λ (i : Store). storeAfter i l End) q ∙ sym (hit _ _ _ (ap isDone a)) in
         let e : n ≡ dayBy ok s d l End = m ∙ sym (hit _ _ _ (ap isDone a)) in (
           (λ i. record { answer = sym a i; day = e i }),
-          (y ∙ ap (λ (i : Store). i .words) u, (r ∙ ap (λ (i : Store). i .bytes) u, v ∙ end-with g o ∙ j ∙ sym (end-with s l))),
+          (y ∙ ap (λ (i : Store). i .words) u, (r ∙ ap (λ (i : Store). i .bytes) u, v ∙ end-with g l ∙ sym (end-with s l))),
         )
 
 -- where it was found to be what its test says

@@ -4,11 +4,11 @@
 use mathlib.Core.Path.{_≡_, refl, sym, ap, ap₂, _∙_, subst}
 use mathlib.Core.Bool.{Bool, true, false, cond, _&&_}
 use mathlib.Core.List.{List}
-use Prim.Native.Nat.{ℕ, suc, _+_, _-_, _*_, _≤_, _<_}
+use Prim.Native.Nat.{ℕ, suc, _+_, _-_, _≤_, _<_}
 use native.Mathlib.Omega.{arith}
 use borrow.Author.Tests.{le-ltb, eqb-true, ltb-true, ltb-false}
 use lib.Dec.{eqb, ltb}
-use lib.ListN.{length, getD, length-set}
+use lib.ListN.{length, getD}
 use Rattle.words.proofs.Tests.{never, hit, skip, read-same, by-test}
 use Rattle.lists.specs.All.{iter}
 use Rattle.lists.proofs.Laws.{length-tab, getD-tab, iter-inv}
@@ -17,7 +17,7 @@ use Rattle.node.specs.declared.Answer.{Answer}
 use Rattle.node.specs.declared.Answer.the-variants.{Done, NoRoom, BadWindows}
 use Rattle.site.specs.Members.{nobody, memberAt}
 use Rattle.site.specs.Load.{loadAnswer, loadedSite}
-use Rattle.site.specs.Answers.{areaSize, answerOf}
+use Rattle.site.specs.Answers.{areaSize}
 use Rattle.site.specs.Events.{isEnd}
 use Rattle.site.specs.Steps.{siteAfter, areaAfter}
 use Rattle.node.specs.declared.Config.{Config}
@@ -42,22 +42,16 @@ use Rattle.machine.specs.hours.Stored.{storedAnswer, storedDay, dayAnswe
 use Rattle.machine.specs.declared.Day.{Day}
 use Rattle.machine.proofs.hours.Laws.{given-none, loaded-site, end-area, end-room, end-phase, end-windows, refused-after, done-after}
 use Rattle.machine.proofs.hours.Laws.{plain-answer, plain-after, end-is}
-use Rattle.machine.proofs.hours.Given.{was, given, partSite, at-index, finish, start, due-site, want-area}
+use Rattle.machine.proofs.hours.Given.{was, given, partSite, at-index, finish, start, due-site}
 
 -- storage that is long enough
 abbrev pub Long : Store → Type 0
 Long s = (wordsSize ≤ length (s .words)) × (bytesSize ≤ length (s .bytes))
 
--- wants and ends write nothing into the area
-pub area-with : (s : Store) (l : List ℕ) (e : Event) → areaAfter (siteIn s) l e ≡ l → areaWith s l e ≡ l
-unfolding areaWith
-area-with s l e h = read-same (λ (x : List ℕ). x) (tooShort s) l (areaAfter (siteIn s) l e) l refl h
-
-pub want-with : (s : Store) (l : List ℕ) (j d : ℕ) → areaWith s l (Want j d) ≡ l
-want-with s l j d = area-with s l (Want j d) (want-area (siteIn s) l j d)
-
+-- an end writes nothing into the area
 pub end-with : (s : Store) (l : List ℕ) → areaWith s l End ≡ l
-end-with s l = area-with s l End (sym (end-area (siteIn s) l))
+unfolding areaWith
+end-with s l = read-same (λ (x : List ℕ). x) (tooShort s) l (areaAfter (siteIn s) l End) l refl (sym (end-area (siteIn s) l))
 
 -- the members of a site in storage
 members-long : (s : Store) → length (siteIn s .members) ≡ 32

@@ -17,7 +17,7 @@ use Rattle.site.specs.declared.Event.the-variants.{Send, Hear, Close, Take, End
 use Rattle.site.proofs.Accepted.{answered, send-accepted, hear-accepted, take-accepted, want-accepted, crash-accepted, restart-accepted}
 use Rattle.machine.specs.Layout.{Store, wordsSize, bytesSize, tooShort, siteIn}
 use Rattle.machine.specs.steps.After.{wantedStore, nextStore, storageAnswer, storeAfter, siteWith}
-use Rattle.machine.proofs.Whole.{enough, long-enough}
+use Rattle.machine.proofs.Whole.{long-enough}
 use Rattle.machine.proofs.Seats.{in-config}
 use Rattle.machine.proofs.steps.Sites.{heard-site, taken-site, crashed-site, restarted-site, wanted-site, wanted-long, sent-site}
 use Rattle.machine.proofs.Rounds.{closed-site, ended-site}
@@ -56,13 +56,10 @@ module _ (s : Store) (l : List ℕ) (e : Event) where
 -- a want keeps storage long enough
 pub want-long : (s : Store) (l : List ℕ) (j d : ℕ) → wordsSize ≤ length (s .words) → bytesSize ≤ length (s .bytes)
     → (wordsSize ≤ length (storeAfter s l (Want j d) .words)) × (bytesSize ≤ length (storeAfter s l (Want j d) .bytes))
-unfolding storeAfter storageAnswer
-want-long s l j d w b = go (isDone (storageAnswer s l (Want j d))) refl
+unfolding storeAfter
+want-long s l j d w b = go (isDone (storageAnswer s l (Want j d)))
   where
-    done : isDone (storageAnswer s l (Want j d)) ≡ true → answerOf (siteIn s) l (Want j d) ≡ Done
-    done h = done-is _ (ap isDone (sym (skip _ _ _ _ (enough s w b) refl)) ∙ h)
-
-    go : (t : Bool) → isDone (storageAnswer s l (Want j d)) ≡ t
-        → (wordsSize ≤ length (cond t (wantedStore s j d) s .words)) × (bytesSize ≤ length (cond t (wantedStore s j d) s .bytes))
-    go true h = wanted-long s w b j (in-config s j (want-accepted (siteIn s) j d (answered (siteIn s) l (Want j d) (done h) .1) .0 .node)) d
-    go false h = (w, b)
+    go : (t : Bool) → (wordsSize ≤ length (cond t (wantedStore s j d) s .words))
+        × (bytesSize ≤ length (cond t (wantedStore s j d) s .bytes))
+    go true = wanted-long s w b j d
+    go false = (w, b)

@@ -11,16 +11,15 @@ use lib.Seq.{ext-getD, getD-set-same, getD-set-other}
 use Rattle.words.proofs.Tests.{same-or-not}
 use Rattle.lists.specs.Bytes.{window}
 use Rattle.lists.proofs.Laws.{length-tab, getD-tab}
-use Rattle.node.proofs.Laws.{hears, wants}
+use Rattle.node.proofs.Laws.{hears}
 use Rattle.node.proofs.Bare.{waiting-bare}
 use Rattle.node.proofs.Made.{restarted}
 use Rattle.node.specs.Core.{coreOf, bare}
 use Rattle.node.specs.declared.Move.the-variants.{Free}
 use Rattle.node.specs.declared.Config.{Config}
-use Rattle.node.specs.Model.{Epoch}
 use Rattle.node.specs.Model.{Node}
 use Rattle.node.specs.declared.Packet.{Packet}
-use Rattle.range.proofs.Lengths.{Lengths, long-hear, long-want, long-restart}
+use Rattle.range.proofs.Lengths.{Lengths, long-hear, long-restart}
 use Rattle.wire.specs.Layout.{packetIn}
 use Rattle.site.specs.Parts.{packetPart}
 use Rattle.site.specs.Counts.{oneMore}
@@ -29,13 +28,14 @@ use Rattle.site.specs.Steps.{sentSite, heardMember, heardSite, takenMember, tak
 use Rattle.site.specs.Steps.{restartedMember, restartedSite}
 use Rattle.site.specs.Model.{Member}
 use Rattle.machine.specs.Layout.{Store, store, wordsSize, bytesSize, rowSize, roomSize, atConfig, atPlace, atSent, atPhase, nodeIn}
-use Rattle.machine.specs.Layout.{storedIn, configIn, siteIn}
-use Rattle.machine.specs.Written.{writtenFront, writtenFree}
+use Rattle.machine.specs.Layout.{nodeWordsAt, storedIn, configIn, siteIn}
+use Rattle.machine.specs.Written.{writtenFront, demanded, writtenFree}
 use Rattle.machine.specs.steps.After.{sentStore, heardStore, takenStore, wantedStore, crashedStore, restartedStore}
 use Rattle.lists.proofs.Places.{apart-none, apart-set}
 use Rattle.machine.proofs.Laws.{setup-there, site-put}
 use Rattle.machine.proofs.Takes.{taken-stored}
 use Rattle.machine.proofs.Back.{moved-stored, front-stored, words-apart, half-apart, full-apart}
+use Rattle.machine.proofs.Demanded.{demanded-apart, demanded-stored}
 use Rattle.machine.proofs.Tail.{long-stored, tail-members}
 use Rattle.machine.proofs.Seats.{inside, config-are, member-is}
 
@@ -95,25 +95,17 @@ module _ (s : Store) (w : wordsSize ≤ length (s .words)) (b : bytesSize ≤ le
         (restarted (setupOf (siteIn s .config) j) flags (siteIn s .place) 0 .setup ∙ ap (λ (f : Config). setupOf f j) (config-are s))
         (waiting-bare (setupOf (siteIn s .config) j) flags (siteIn s .place) 0)
 
-    -- a want keeps storage long enough
-    pub wanted-long : (d : ℕ) → (wordsSize ≤ length (wantedStore s j d .words)) × (bytesSize ≤ length (wantedStore s j d .bytes))
-    unfolding wantedStore
-    wanted-long d =
-        let m : Member = wantedMember (storedIn s (j - 1)) d in
-        let l : Lengths (m .node) = long-want (nodeIn s (j - 1)) d (long-stored s (j - 1)) in
-        (omega (arith, w, words-apart m l s (j - 1) index w b .long), omega (arith, b, half-apart m l s (j - 1) index w b .long))
-
     pub wanted-site : (d : ℕ) → siteIn (wantedStore s j d) ≡ wantedSite (siteIn s) j d
     unfolding wantedStore wantedSite
     wanted-site d =
-        let n : Node = nodeIn s (j - 1) in
-        let m : Member = wantedMember (storedIn s (j - 1)) d in
-        let l : Lengths (m .node) = long-want n d (long-stored s (j - 1)) in
-        site-put {s = s} {t = writtenFront s (j - 1) m} (j - 1) (words-apart m l s (j - 1) index w b) (half-apart m l s (j - 1) index w b)
-        index m few
-        (front-stored m l s (j - 1) index w b (wants n d .setup ∙ setup-there s (j - 1)) (sym (wants n d .schedule))
-        (sym (ap (λ (x : Epoch). x .determined) (wants n d .epoch))))
+        site-put {s = s} {t = demanded s (j - 1) d} (j - 1) (apart-none (s .words) (nodeWordsAt (j - 1)) rowSize)
+        (demanded-apart s (j - 1) d) index (wantedMember (storedIn s (j - 1)) d) few (demanded-stored s (j - 1) d index b)
         ∙ ap (λ (y : Member). put (siteIn s) j (wantedMember y d)) (sym (member-is s j o))
+
+  -- a want keeps storage long enough
+  pub wanted-long : (j d : ℕ) → (wordsSize ≤ length (wantedStore s j d .words)) × (bytesSize ≤ length (wantedStore s j d .bytes))
+  unfolding wantedStore
+  wanted-long j d = (w, omega (arith, b, demanded-apart s (j - 1) d .long))
 
   pub sent-site : (j : ℕ) → outside (configIn s) j ≡ false → siteIn (sentStore s j) ≡ sentSite (siteIn s) j
   unfolding siteIn sentSite sentStore

@@ -11,12 +11,12 @@ use Rattle.node.specs.declared.Answer.the-variants.{NoRoom}
 use Rattle.site.specs.Members.{headerOf, memberAt, downMember}
 use Rattle.site.specs.Parts.{packetPart}
 use Rattle.site.specs.Answers.{answerHeard, answerOf}
-use Rattle.site.specs.Steps.{stored, heardMember, wantedMember, restartedMember, siteAfter, areaAfter}
+use Rattle.site.specs.Steps.{stored, heardMember, restartedMember, siteAfter, areaAfter}
 use Rattle.site.specs.Model.{Site}
 use Rattle.site.specs.declared.Event.{Event}
 use Rattle.site.specs.declared.Event.the-variants.{Send, Hear, Close, Take, End, Want, Crash, Restart}
 use Rattle.machine.specs.Layout.{Store, store, tooShort, atSent, configIn, storedIn, siteIn}
-use Rattle.machine.specs.Written.{writtenFront, writtenFree, takenAt, closedStore, endedStore}
+use Rattle.machine.specs.Written.{writtenFront, demanded, writtenFree, takenAt, closedStore, endedStore}
 
 -- node j has sent one more packet: one byte
 unfoldable pub sentStore : Store → ℕ → Store
@@ -33,7 +33,7 @@ unfoldable pub takenStore : Store → ℕ → ℕ → Store
 takenStore s j i = takenAt s (j - 1) (i - 1)
 
 unfoldable pub wantedStore : Store → ℕ → ℕ → Store
-wantedStore s j d = writtenFront s (j - 1) (wantedMember (storedIn s (j - 1)) d)
+wantedStore s j d = demanded s (j - 1) d
 
 unfoldable pub crashedStore : Store → ℕ → Store
 crashedStore s j = writtenFree s (j - 1) (downMember (configIn s) j)

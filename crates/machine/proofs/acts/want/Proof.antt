@@ -1,15 +1,9 @@
 use mathlib.Core.Path.{_≡_, refl, sym, ap, _∙_}
 use Prim.Native.Nat.{ℕ, _-_}
 use Rattle.words.proofs.Tests.{hit, skip}
-use Rattle.node.specs.Core.{coreOf, bare}
-use Rattle.node.specs.Steps.{wantedNode}
-use Rattle.node.specs.declared.Core.{Core}
-use Rattle.site.specs.Members.{withNode}
-use Rattle.machine.specs.Inner.{nextPut}
-use Rattle.machine.specs.Layout.{Store, store, configIn, nodeIn, storedIn}
-use Rattle.machine.specs.Written.{writtenFront}
+use Rattle.machine.specs.Layout.{Store, store, configIn}
+use Rattle.machine.specs.Written.{demanded}
 use Rattle.machine.specs.Acts.{wantedPut}
-use Rattle.machine.proofs.Moves.{wanted-core, next-put}
 use Rattle.machine.proofs.Seats.{at-node-index}
 use Rattle.machine.proofs.Whole.{at-place}
 use borrow.Author.Needs.{needs}
@@ -22,64 +16,39 @@ no-node-requires c κs = search needs
 same-length : tie.Need-same-length
 same-length c = search needs
 
-same-length-2 : tie.Need-same-length-2
-same-length-2 c = search needs
-
 returns : tie.Need-returns
 unfolding wantedPut
 returns c =
-    let a = c .before .before .before .before .before .before .args in
+    let a = c .before .before .before .before .before .args in
     let s = store (a .words .now) (a .bytes .now) in
     let e : s ≡ wantedPut s (a .j) (a .d) = sym (hit _ _ _ (sym (c .before .no-node .ensures) ∙ c .if1 .taken)) in
-    (ap (λ (x : Store). x .words) e, ap (λ (x : Store). x .bytes) e)
+    ap (λ (x : Store). x .bytes) e
 
 node-index-requires : tie.Need-node-index-requires
 node-index-requires c κs = search needs
 
-core-at-requires : tie.Need-core-at-requires
-core-at-requires c κs =
-    let c2 = c .before .before in
-    let c4 = c2 .before .before in
-    let a = c4 .before .before .before .before .before .args in
-    let h = at-place (store (a .words .now) (a .bytes .now)) (a .j) (sym (c4 .no-node .ensures) ∙ c2 .before .if1 .left) in
-    (c2 .node-index .ensures .1, h .0, h .1 .0)
+put-demand-requires : tie.Need-put-demand-requires
+put-demand-requires c κs =
+    let c3 = c .before .before .before in
+    let a = c3 .before .before .before .before .args in
+    let h = at-place (store (a .words .now) (a .bytes .now)) (a .j) (sym (c3 .no-node .ensures) ∙ c .before .before .if1 .left) in
+    (c .node-index .ensures .1, h .1 .0)
 
-want-requires : tie.Need-want-requires
-want-requires c κs = search needs
-
-put-next-requires : tie.Need-put-next-requires
-put-next-requires c κs =
-    let c6 = c .before .before .before .before .before .before in
-    let c8 = c6 .before .before in
-    let a = c8 .before .before .before .before .before .args in
-    let h = at-place (store (a .words .now) (a .bytes .now)) (a .j) (sym (c8 .no-node .ensures) ∙ c6 .before .if1 .left) in
-    (c6 .node-index .ensures .1, h .0, h .1 .0)
-
-same-length-3 : tie.Need-same-length-3
-same-length-3 c = search needs
-
-same-length-4 : tie.Need-same-length-4
-same-length-4 c = search needs
+same-length-2 : tie.Need-same-length-2
+same-length-2 c = search needs
 
 returns-2 : tie.Need-returns-2
 unfolding wantedPut
 returns-2 c =
-    let c4 = c .before .before .before .before in
-    let c8 = c4 .before .before .before .before in
-    let c11 = c8 .before .before .before in
-    let c13 = c11 .before .before in
-    let a = c13 .before .before .before .before .before .args in
+    let c3 = c .before .before .before in
+    let c6 = c3 .before .before .before in
+    let a = c6 .before .before .before .before .args in
     let s = store (a .words .now) (a .bytes .now) in
-    let i = c11 .node-index .result in
-    let p = sym (c13 .no-node .ensures) ∙ c11 .before .if1 .left in
-    let e = at-node-index (configIn s) (a .j) (c11 .node-index .ensures .0) (at-place s (a .j) p .1 .1) in
-    let next = c4 .before .want .ensures ∙ ap (λ (x : Core). coreOf (wantedNode (bare x) (a .d))) (c8 .core-at .ensures)
-    ∙ wanted-core (nodeIn s i) (a .d) in
-    let z : nextPut s i (c4 .before .want .result) ≡ wantedPut s (a .j) (a .d) =
-    next-put s i (wantedNode (nodeIn s i) (a .d)) next
-    ∙ ap (λ (k : ℕ). writtenFront s k (withNode (storedIn s k) (wantedNode (nodeIn s k) (a .d)))) e
+    let p = sym (c6 .no-node .ensures) ∙ c3 .before .before .if1 .left in
+    let e = at-node-index (configIn s) (a .j) (c3 .node-index .ensures .0) (at-place s (a .j) p .1 .1) in
+    let z : demanded s (c3 .node-index .result) (a .d) ≡ wantedPut s (a .j) (a .d) = ap (λ (k : ℕ). demanded s k (a .d)) e
     ∙ sym (skip _ _ _ _ p refl) in
-    (c4 .put-next .ensures .0 ∙ ap (λ (x : Store). x .words) z, c4 .put-next .ensures .1 ∙ ap (λ (x : Store). x .bytes) z)
+    c .before .before .put-demand .ensures ∙ ap (λ (x : Store). x .bytes) z
 
 pub want-spec : {M : Type 1} → statement M
 want-spec =
@@ -87,12 +56,8 @@ want-spec =
     (tie.spec
     no-node-requires
     same-length
-    same-length-2
     returns
     node-index-requires
-    core-at-requires
-    want-requires
-    put-next-requires
-    same-length-3
-    same-length-4
+    put-demand-requires
+    same-length-2
     returns-2)

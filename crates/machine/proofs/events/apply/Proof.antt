@@ -3,7 +3,7 @@ use mathlib.Core.Path.{sym, ap, _∙_}
 use Prim.Native.Nat.{_-_}
 use Rattle.machine.specs.Layout.{Store, store, siteIn}
 use Rattle.machine.proofs.Whole.{as-closed, as-ended}
-use Rattle.machine.specs.steps.After.{nextStore, sentStore}
+use Rattle.machine.specs.steps.After.{nextStore, sentStore, wantedStore}
 use Rattle.site.specs.Answers.{eventAnswer}
 use Rattle.site.specs.Steps.{nextArea}
 use Rattle.site.specs.declared.Event.{Event}
@@ -196,17 +196,16 @@ same-length-14 : tie.Need-same-length-14
 same-length-14 c = search needs
 
 returns-6 : tie.Need-returns-6
+unfolding wantedStore
 returns-6 c =
-    let c4 = c .before .before .before .before in
-    let c8 = c4 .before .before .before .before in
-    let c13 = c8 .before .before .before .before .before in
-    let d = c13 in
+    let c6 = c .before .before .before .before .before .before in
+    let d = c6 .before .before .before .before .before in
     let s = store (d .args .words .now) (d .args .bytes .now) in
-    let q = sym (c8 .e4 .given .1) in
+    let q = sym (c6 .e4 .given .1) in
     let w = ap (λ (x : Event). nextStore s (d .args .area .now) x .words) q in
     let y = ap (λ (x : Event). nextStore s (d .args .area .now) x .bytes) q in
     let z = ap (λ (x : Event). nextArea (siteIn s) (d .args .area .now) x) q in
-    (c4 .want .ensures .0 ∙ w, (c4 .want .ensures .1 ∙ y, z))
+    (w, (c .before .before .want .ensures ∙ y, z))
 
 same-length-15 : tie.Need-same-length-15
 same-length-15 c = search needs

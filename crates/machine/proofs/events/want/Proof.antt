@@ -9,7 +9,7 @@ use Rattle.machine.proofs.events.want.Statement.{statement}
 use Rattle.machine.proofs.events.want.Tie as tie
 
 cast-want : tie.Need-cast-want
-cast-want c = let p = c .before .before .before .before .pre in omega (arith, want-accepted _ _ _ (p .2) .1)
+cast-want c = let p = c .before .before .before .pre in omega (arith, want-accepted _ _ _ (p .2) .1)
 
 want-requires : tie.Need-want-requires
 want-requires c κs = search needs
@@ -17,18 +17,14 @@ want-requires c κs = search needs
 same-length : tie.Need-same-length
 same-length c = search needs
 
-same-length-2 : tie.Need-same-length-2
-same-length-2 c = search needs
-
 returns : tie.Need-returns
 returns c =
-    let c4 = c .before .before .before .before in
-    let c9 = c4 .before .before .before .before .before in
-    let a = c9 .args in
+    let d = c .before .before .before .before .before .before in
+    let a = d .args in
     let s = store (a .words .now) (a .bytes .now) in
-    let p = c9 .pre in
+    let p = d .pre in
     let z = wanted-put s (p .0) (p .1) (a .j) (in-config s (a .j) (want-accepted (siteIn s) (a .j) (a .d) (p .2) .0 .node)) (a .d) in
-    (c4 .want .ensures .0 ∙ ap (λ (x : Store). x .words) z, c4 .want .ensures .1 ∙ ap (λ (x : Store). x .bytes) z)
+    c .before .before .want .ensures ∙ ap (λ (x : Store). x .bytes) z
 
 pub want-spec : {M : Type 1} → statement M
 want-spec =
@@ -37,5 +33,4 @@ want-spec =
     cast-want
     want-requires
     same-length
-    same-length-2
     returns)

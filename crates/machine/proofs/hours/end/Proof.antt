@@ -78,19 +78,19 @@ same-length-9 c = search needs
 returns-3 : tie.Need-returns-3
 returns-3 c =
     let c6 = c .before .before .before .before .before .before in
-    let c16 = c6 .before .before .before .before .before .before .before .before .before .before in
-    let c25 = c16 .before .before .before .before .before .before .before .before .before in
-    let a = c25 .before .before .before .before .before .before .before .before .before .args in
+    let c12 = c6 .before .before .before .before .before .before in
+    let c21 = c12 .before .before .before .before .before .before .before .before .before in
+    let a = c21 .before .before .before .before .before .before .before .before .before .args in
     let s = store (a .words .now) (a .bytes .now) in
-    let d = c25 .is-done in
-    let b = c16 .begin in
+    let d = c21 .is-done in
+    let b = c12 .begin in
     let o = c6 .step .ensures in
-    let g : store (b .last .0) (b .last .1 .0) ≡ begunStore s (a .day) (a .area .now) (windowsIn (a .w .now)) End =
-    λ i. record { words = (b .ensures .1 .0) i; bytes = (b .ensures .1 .1 .0) i } in
-    done-tested (a .ok) s (a .day) (a .area .now) (windowsIn (a .w .now)) (c25 .before .answer-to .ensures)
-    (sym (d .ensures) ∙ not-false (d .result) (c16 .before .before .before .before .before .before .before .before .if1 .left))
-    (not-false (a .ok) (c16 .before .before .before .before .before .before .before .if2 .left))
-    g (b .ensures .0) (b .ensures .1 .1 .1) (o .1 .0) (o .1 .1 .0) (o .1 .1 .1 .1)
+    let g : store (a .words .now) (b .last .1 .0) ≡ begunStore s (a .day) (a .area .now) (windowsIn (a .w .now)) End =
+    λ i. record { words = (b .ensures .1 .0) i; bytes = (b .ensures .1 .1) i } in
+    done-tested (a .ok) s (a .day) (a .area .now) (windowsIn (a .w .now)) (c21 .before .answer-to .ensures)
+    (sym (d .ensures) ∙ not-false (d .result) (c12 .before .before .before .before .before .before .before .before .if1 .left))
+    (not-false (a .ok) (c12 .before .before .before .before .before .before .before .if2 .left))
+    g (b .ensures .0) (o .1 .0) (o .1 .1 .0) (o .1 .1 .1 .1)
 
 pub end-spec : {M : Type 1} → statement M
 end-spec =

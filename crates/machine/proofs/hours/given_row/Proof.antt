@@ -1,32 +1,30 @@
-use Prim.Native.Nat.{_≤_}
+use mathlib.Core.Path.{refl, sym}
 use native.Mathlib.Omega.{arith}
 use borrow.Author.Needs.{needs}
-use Rattle.windows.proofs.Laws.{due-small}
+use borrow.Author.Tests.{le-leb, lt-leb}
+use lib.Dec.{leb}
+use Rattle.words.proofs.Tests.{hit, skip}
+use Rattle.allotment.specs.Allotment.{topRequest}
 use Rattle.machine.proofs.hours.given_row.Statement.{statement}
 use Rattle.machine.proofs.hours.given_row.Tie as tie
 
-cast-due-at : tie.Need-cast-due-at
-cast-due-at c = search needs
-
-due-at-requires : tie.Need-due-at-requires
-due-at-requires c κs = search needs
-
-cast-t8 : tie.Need-cast-t8
-cast-t8 c = let h : c .before .before .before .args .row .want ≤ 255 = omega arith
-    in omega (
-      arith,
-      c .due-at .ensures,
-      due-small _ _ _ (c .before .before .before .pre) (c .before .before .before .args .j) 0
-          (c .before .before .before .args .row .want) 255
-          (omega arith) h,
-    )
+cast-if1 : tie.Need-cast-if1
+cast-if1 c = search needs
 
 returns : tie.Need-returns
-returns c = λ i. record {
-  version = c .before .before .before .args .row .version;
-  flags = c .before .before .before .args .row .flags;
-  want = (c .due-at .ensures) i;
-}
+returns c =
+    let a = c .before .args in
+    let v = sym (skip (leb (a .d) topRequest) (a .d) (a .row .want) _ (lt-leb (a .d) topRequest (omega arith)) refl) in
+    λ i. record { version = a .row .version; flags = a .row .flags; want = v i }
+
+cast-t5 : tie.Need-cast-t5
+cast-t5 c = search needs
+
+returns-2 : tie.Need-returns-2
+returns-2 c =
+    let a = c .before .args in
+    let v = sym (hit (leb (a .d) topRequest) (a .d) (a .row .want) (le-leb (a .d) topRequest (omega arith))) in
+    λ i. record { version = a .row .version; flags = a .row .flags; want = v i }
 
 pub given-row-spec : {M : Type 1} → statement M
-given-row-spec = tie.close (tie.spec cast-due-at due-at-requires cast-t8 returns)
+given-row-spec = tie.close (tie.spec cast-if1 returns cast-t5 returns-2)
