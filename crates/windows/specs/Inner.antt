@@ -1,14 +1,11 @@
 -- What only private contracts cite: windows in order, and a pass over a list that meets each window with those before it, and then alone.
 -- Assumes nothing.
 use mathlib.Core.Bool.{Bool, true, false, not, cond, _&&_, _||_}
-use mathlib.Core.List.{List}
 use Prim.Native.Nat.{ℕ, zero, suc, _+_}
 use lib.Dec.{eqb, ltb, leb}
-use Rattle.lists.specs.All.{iter, allBelow}
-use Rattle.windows.specs.Windows.{topWindows, noWindow, windowAt, dayOk, windowOk, overlap, isDue}
+use Rattle.windows.specs.Windows.{topWindows, noWindow, dayOk, windowOk, holdsAt, overlap, isDue}
 use Rattle.windows.specs.declared.Window.{Window}
 use Rattle.windows.specs.declared.Looked.{Looked}
-use Rattle.windows.specs.declared.Due.{Due}
 use Rattle.windows.specs.declared.Seen.{Seen}
 
 -- w stands behind v: it is of a later node, or of the same one and doesn't begin before v ends
@@ -24,20 +21,13 @@ lastOf f (suc i) = f i
 abbrev pub orderedAt : ℕ → ℕ → (ℕ → Window) → ℕ → Bool
 orderedAt N D f i = windowOk N D (f i) && follows (lastOf f i) (f i)
 
--- what is due of node j in epoch e after one window more
-abbrev pub metOf : ℕ → ℕ → Due → Window → Due
-metOf j e s w = record { none = s .none && not (eqb (w .node) j); demand = cond (isDue j e w) (w .demand) (s .demand) }
-
 -- where a node's number stands in a list of the numbers 0 to 32
 abbrev pub entryOf : ℕ → ℕ
 entryOf j = cond (leb j 32) j 0
 
--- what the first n windows of a list say of node j in epoch e
-abbrev pub dueIn : List Window → ℕ → ℕ → ℕ → Due
-dueIn ws e n j = record {
-  none = allBelow n (λ i. not (eqb (windowAt ws i .node) j));
-  demand = iter n (λ i d. cond (isDue j e (windowAt ws i)) (windowAt ws i .demand) d) 0;
-}
+-- that of a window's node where the window holds in epoch e, and otherwise 0
+abbrev pub entryDue : ℕ → Window → ℕ
+entryDue e w = cond (holdsAt w e) (entryOf (w .node)) 0
 
 -- before the first of so many windows; of more than 64 none is looked at
 abbrev pub begunOf : ℕ → ℕ → Seen

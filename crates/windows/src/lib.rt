@@ -3,10 +3,10 @@ ghost use mathlib.Core.Path.{_≡_};
 ghost use Prim.Native.Nat.{_<_};
 ghost use lib.Dec.{eqb};
 ghost use lib.ListN.{length};
-ghost use Rattle.lists.specs.All.{tab, allBelow};
+ghost use Rattle.lists.specs.All.{allBelow};
 ghost use mathlib.Core.Bool.{not, cond};
 ghost use Rattle.windows.specs.Windows.{dayOk, windowOk, isDue, overlap, entryOk, listOk, dueAll, lookedOf};
-ghost use Rattle.windows.specs.Inner.{follows, orderedAt, metOf, entryOf, dueIn, begunOf, turnOf, toldOf};
+ghost use Rattle.windows.specs.Inner.{follows, orderedAt, entryOf, entryDue, begunOf, turnOf, toldOf};
 ghost use Rattle.windows.specs.Copies.{windowIn, windowCount, windowsIn, noWindows, withWindow, copyOf, windowWords};
 
 // What a node wants from an epoch of the day up to the one before `end`. The fields lie as C has them.
@@ -199,13 +199,7 @@ pub fn list_ok(l: &[u32], nodes: u32, day: u32) -> bool
     day_ok(day) & ((n <= 64) & entries_ok(l, nodes, day))
 }
 
-// What the windows so far say of a node: whether none is its own, and the demand that is due.
-struct Due {
-    none: bool,
-    demand: u32,
-}
-
-// Where a node's number stands in a list of the numbers 0 to 32; that of none of 32 nodes at 0.
+// Where a node's number stands in a list of the numbers 0 to 32; that of none of 32 nodes at 0, which stands for no node.
 fn entry_of(node: u32) -> usize
     ensures { λ r. ⌜ r ≡ entryOf node ⌝ }
     ensures { λ r. ⌜ r < 33 ⌝ }
@@ -216,59 +210,45 @@ fn entry_of(node: u32) -> usize
     0
 }
 
-// What the list says of each number up to 32 in an epoch: one pass, in which each window changes the entry of its own node.
-fn due_in(l: &[u32], epoch: u32) -> [Due; 33]
-    ensures { λ r. ⌜ r ≡ tab 33 (dueIn (windowsIn (now (l .entry))) epoch (length (windowsIn (now (l .entry))))) ⌝ }
+// The same of a window's node, where the window holds in an epoch, and otherwise 0.
+fn entry_due(w: Window, epoch: u32) -> usize
+    ensures { λ r. ⌜ r ≡ entryDue epoch w ⌝ }
+    ensures { λ r. ⌜ r < 33 ⌝ }
 {
-    let n = count(l);
-    let none = Due {
-        none: true,
-        demand: 0,
-    };
-    let mut list = [none; 33];
-    for i in 0..n {
-        let w = window_in(l, i);
-        let j = entry_of(w.node);
-        let s = list[j];
-        list[j] = due_after(s, w, j as u32, epoch);
+    if (w.first <= epoch) & (epoch < w.end) {
+        return entry_of(w.node);
     }
-    list
+    0
 }
 
-// The demand that is due, and otherwise d.
-fn due_else(s: Due, d: u32) -> u32
-    ensures { λ r. ⌜ r ≡ cond (s .none) d (s .demand) ⌝ }
+// What is due where a node has windows, and otherwise d.
+fn due_else(own: u8, due: u32, d: u32) -> u32
+    ensures { λ r. ⌜ r ≡ cond (eqb own 0) d due ⌝ }
 {
-    if s.none {
+    if own == 0 {
         return d;
     }
-    s.demand
+    due
 }
 
-// The demands of 32 nodes as an epoch begins: a node without windows keeps the one it had, here the same for all.
+// The demands of 32 nodes as an epoch begins: a node without windows keeps the one it had, here the same for all. In one pass each window
+// marks its node and, where it holds, tells what is due. One that doesn't hold writes to entry 0: nothing that was written is read again.
 pub fn due_all(l: &[u32], epoch: u32, demand: u32) -> [u32; 32]
     ensures { λ r. ⌜ r ≡ dueAll (windowsIn (now (l .entry))) epoch demand ⌝ }
 {
-    let list = due_in(l, epoch);
+    let n = count(l);
+    let mut own = [0u8; 33];
+    let mut due = [0u32; 33];
+    for i in 0..n {
+        let w = window_in(l, i);
+        own[entry_of(w.node)] = 1;
+        due[entry_due(w, epoch)] = w.demand;
+    }
     let mut demands = [demand; 32];
     for i in 0..32usize {
-        let s = list[i + 1];
-        demands[i] = due_else(s, demand);
+        demands[i] = due_else(own[i + 1], due[i + 1], demand);
     }
     demands
-}
-
-// What is due after one window more. Most windows are of other nodes, and of those only the node is read.
-fn due_after(s: Due, w: Window, node: u32, epoch: u32) -> Due
-    ensures { λ r. ⌜ r ≡ metOf node epoch s w ⌝ }
-{
-    if w.node != node {
-        return s;
-    }
-    Due {
-        none: false,
-        demand: due_or(w, node, epoch, s.demand),
-    }
 }
 
 // The demand of a window of a node that holds in an epoch, and otherwise d.

@@ -1,76 +1,160 @@
-use mathlib.Core.Path.{_≡_, refl, ap, _∙_}
+use mathlib.Core.Path.{_≡_, refl, sym, _∙_}
 use mathlib.Core.Bool.{cond}
-use mathlib.Core.List.{List, _++_}
+use mathlib.Core.List.{_++_}
 use Prim.Native.Nat.{_≤_, _-_, _+_}
 use native.Mathlib.Omega.{arith}
-use borrow.Author.Needs.{needs}
-use lib.ListN.{length, drop, getD}
+use lib.Dec.{eqb}
+use lib.ListN.{length, drop, getD, length-set}
 use Rattle.lists.specs.All.{tab}
-use Rattle.lists.proofs.Laws.{fill-none, fill-more, fill-end, getD-tab, tab-ext}
+use Rattle.lists.proofs.Laws.{fill-none, fill-more, fill-end, tab-ext}
 use Rattle.windows.specs.Windows.{dueAll}
-use Rattle.windows.specs.Copies.{windowsIn}
-use Rattle.windows.specs.Inner.{dueIn}
-use Rattle.windows.specs.declared.Due.{Due}
-use Rattle.windows.proofs.Demands.{noDue, due-told}
+use Rattle.windows.specs.Copies.{windowCount, windowsIn}
+use Rattle.windows.proofs.Copies.{count-in, count-most, window-in}
+use Rattle.windows.proofs.Demands.{Told, told-none, told-turn, told-all}
+use borrow.Author.Needs.{needs}
 use Rattle.windows.proofs.due_all.Statement.{statement}
 use Rattle.windows.proofs.due_all.Tie as tie
 
 abbrev Inv-loop : tie.InvT-loop
-Inv-loop l epoch demand list demands₀ i₀ demands i = (i ≤ 32) × (length demands₀ ≡ 32)
-    × (demands ≡ tab i (λ k. cond (getD list (k + 1) noDue .none) demand (getD list (k + 1) noDue .demand)) ++ drop i demands₀)
+Inv-loop l epoch demand n own₀ due₀ i₀ own due i =
+    (i ≤ n) × (n ≡ windowCount l) × (n ≤ 65) × (length own ≡ 33) × (length due ≡ 33) × Told (windowsIn l) epoch i own due
 
 abbrev μ-loop : tie.MeasureT-loop
-μ-loop l epoch demand list demands₀ i₀ demands i = 32 - i
+μ-loop l epoch demand n own₀ due₀ i₀ own due i = n - i
 
-due-in-requires : tie.Need-due-in-requires Inv-loop μ-loop
-due-in-requires c κs = search needs
+abbrev Inv-loop2 : tie.InvT-loop2
+Inv-loop2 l epoch demand n own due demands₀ i₀ demands i = (i ≤ 32) × (length demands₀ ≡ 32)
+    × (demands ≡ tab i (λ k. cond (eqb (getD own (k + 1) 0) 0) demand (getD due (k + 1) 0)) ++ drop i demands₀)
 
-loop-holds : tie.Need-loop-holds Inv-loop μ-loop
-loop-holds c = (omega arith, refl, fill-none _ _)
+abbrev μ-loop2 : tie.MeasureT-loop2
+μ-loop2 l epoch demand n own due demands₀ i₀ demands i = 32 - i
 
-add-s : tie.Need-add-s Inv-loop μ-loop
-add-s c = omega arith
+-- src/lib.rt:239:9
+count-requires : tie.Need-count-requires Inv-loop μ-loop Inv-loop2 μ-loop2
+count-requires c κs = search needs
 
-mul-s : tie.Need-mul-s Inv-loop μ-loop
-mul-s c = omega arith
+-- src/lib.rt:242:5
+loop-holds : tie.Need-loop-holds Inv-loop μ-loop Inv-loop2 μ-loop2
+loop-holds c =
+    let a = c .before .before .args in (
+      omega arith,
+      c .count .ensures,
+      omega (arith, c .count .ensures, count-most (a .l .now)),
+      refl,
+      refl,
+      told-none (windowsIn (a .l .now)) (a .epoch),
+    )
 
-array-copy-out-s : tie.Need-array-copy-out-s Inv-loop μ-loop
-array-copy-out-s c = omega arith
+-- src/lib.rt:243:13
+window-in-requires : tie.Need-window-in-requires Inv-loop μ-loop Inv-loop2 μ-loop2
+window-in-requires c κs = omega arith
 
-due-else-requires : tie.Need-due-else-requires Inv-loop μ-loop
-due-else-requires c κs = search needs
+-- src/lib.rt:244:13
+entry-of-requires : tie.Need-entry-of-requires Inv-loop μ-loop Inv-loop2 μ-loop2
+entry-of-requires c κs = search needs
 
-mul-demands : tie.Need-mul-demands Inv-loop μ-loop
-mul-demands c = omega arith
+-- src/lib.rt:244:9
+array-write-own : tie.Need-array-write-own Inv-loop μ-loop Inv-loop2 μ-loop2
+array-write-own c = omega arith
 
-array-write-demands : tie.Need-array-write-demands Inv-loop μ-loop
-array-write-demands c = omega arith
+-- src/lib.rt:245:13
+entry-due-requires : tie.Need-entry-due-requires Inv-loop μ-loop Inv-loop2 μ-loop2
+entry-due-requires c κs = search needs
 
-add-i : tie.Need-add-i Inv-loop μ-loop
+-- src/lib.rt:245:9
+mul-due : tie.Need-mul-due Inv-loop μ-loop Inv-loop2 μ-loop2
+mul-due c = omega arith
+
+-- src/lib.rt:245:9
+array-write-due : tie.Need-array-write-due Inv-loop μ-loop Inv-loop2 μ-loop2
+array-write-due c = omega arith
+
+-- src/lib.rt:242:9
+add-i : tie.Need-add-i Inv-loop μ-loop Inv-loop2 μ-loop2
 add-i c = omega arith
 
-loop-less : tie.Need-loop-less Inv-loop μ-loop
+-- src/lib.rt:242:5
+loop-less : tie.Need-loop-less Inv-loop μ-loop Inv-loop2 μ-loop2
 loop-less c = omega arith
 
-loop-again : tie.Need-loop-again Inv-loop μ-loop
+-- src/lib.rt:242:5
+loop-again : tie.Need-loop-again Inv-loop μ-loop Inv-loop2 μ-loop2
 loop-again c =
-    let m = c .before .before .before .loop in
+    let c4 = c .before .before .before .before in
+    let m = c4 .loop in
+    let a = c4 .before .before .before .args in
+    let r = c .before .entry-of in
+    let k = c .entry-due in
+    let w = c .before .before .window-in .ensures ∙ sym (window-in (a .l .now) (m .i) (omega (arith, m .inv .1))) in (
+      omega arith,
+      m .inv .1,
+      m .inv .2,
+      length-set (m .own) (r .result) 1 ∙ m .inv .3,
+      length-set (m .due) (k .result) (c .before .before .window-in .result .demand) ∙ m .inv .4,
+      told-turn (m .inv .5) w (r .ensures .0) (omega (arith, r .ensures .1, m .inv .3)) (k .ensures .0)
+          (omega (arith, k .ensures .1, m .inv .4)),
+    )
+
+-- src/lib.rt:248:5
+loop2-holds : tie.Need-loop2-holds Inv-loop μ-loop Inv-loop2 μ-loop2
+loop2-holds c = (omega arith, refl, fill-none _ _)
+
+-- src/lib.rt:249:35
+add-due-else : tie.Need-add-due-else Inv-loop μ-loop Inv-loop2 μ-loop2
+add-due-else c = omega arith
+
+-- src/lib.rt:249:31
+array-read-due-else : tie.Need-array-read-due-else Inv-loop μ-loop Inv-loop2 μ-loop2
+array-read-due-else c = omega arith
+
+-- src/lib.rt:249:47
+add-due-else-2 : tie.Need-add-due-else-2 Inv-loop μ-loop Inv-loop2 μ-loop2
+add-due-else-2 c = omega arith
+
+-- src/lib.rt:249:43
+mul-due-else : tie.Need-mul-due-else Inv-loop μ-loop Inv-loop2 μ-loop2
+mul-due-else c = omega arith
+
+-- src/lib.rt:249:43
+array-read-due-else-2 : tie.Need-array-read-due-else-2 Inv-loop μ-loop Inv-loop2 μ-loop2
+array-read-due-else-2 c = omega arith
+
+-- src/lib.rt:249:22
+due-else-requires : tie.Need-due-else-requires Inv-loop μ-loop Inv-loop2 μ-loop2
+due-else-requires c κs = search needs
+
+-- src/lib.rt:249:9
+mul-demands : tie.Need-mul-demands Inv-loop μ-loop Inv-loop2 μ-loop2
+mul-demands c = omega arith
+
+-- src/lib.rt:249:9
+array-write-demands : tie.Need-array-write-demands Inv-loop μ-loop Inv-loop2 μ-loop2
+array-write-demands c = omega arith
+
+-- src/lib.rt:248:9
+add-i-2 : tie.Need-add-i-2 Inv-loop μ-loop Inv-loop2 μ-loop2
+add-i-2 c = omega arith
+
+-- src/lib.rt:248:5
+loop2-less : tie.Need-loop2-less Inv-loop μ-loop Inv-loop2 μ-loop2
+loop2-less c = omega arith
+
+-- src/lib.rt:248:5
+loop2-again : tie.Need-loop2-again Inv-loop μ-loop Inv-loop2 μ-loop2
+loop2-again c =
+    let m = c .before .before .loop2 in
     (omega arith, m .inv .1, fill-more _ _ _ _ _ (omega arith) (m .inv .2) (c .due-else .ensures))
 
-returns : tie.Need-returns Inv-loop μ-loop
+-- src/lib.rt:236:1
+returns : tie.Need-returns Inv-loop μ-loop Inv-loop2 μ-loop2
 unfolding dueAll
 returns c =
-    let m = c .before .loop in
-    let a = c .before .before .before .before .args in
-    let ws = windowsIn (a .l .now) in
-    let list = c .before .before .due-in .ensures in
-    fill-end _ 32 _ _ _ (m .inv .2) (omega arith) (omega arith)
+    let c3 = c .before .before .before in
+    let m = c3 .loop in
+    let a = c3 .before .before .before .args in
+    fill-end _ 32 _ _ _ (c .before .loop2 .inv .2) (omega arith) (omega arith)
     ∙ tab-ext 32 _ _
-    (λ k h.
-    ap (λ (s : Due). cond (s .none) (a .demand) (s .demand))
-    (ap (λ (x : List Due). getD x (k + 1) noDue) list
-    ∙ getD-tab noDue 33 (dueIn ws (a .epoch) (length ws)) (k + 1) (omega (arith, h)))
-    ∙ due-told ws (a .epoch) (k + 1) (a .demand))
+    (λ k h. told-all (m .inv .5) (omega (arith, m .inv .1, count-in (a .l .now))) (k + 1) (a .demand) (omega arith) (omega (arith, h)))
 
 pub due-all-spec : {M : Type 1} → statement M
 due-all-spec =
@@ -78,15 +162,29 @@ due-all-spec =
     (tie.spec
     Inv-loop
     μ-loop
-    due-in-requires
+    Inv-loop2
+    μ-loop2
+    count-requires
     loop-holds
-    add-s
-    mul-s
-    array-copy-out-s
-    due-else-requires
-    mul-demands
-    array-write-demands
+    window-in-requires
+    entry-of-requires
+    array-write-own
+    entry-due-requires
+    mul-due
+    array-write-due
     add-i
     loop-less
     loop-again
+    loop2-holds
+    add-due-else
+    array-read-due-else
+    add-due-else-2
+    mul-due-else
+    array-read-due-else-2
+    due-else-requires
+    mul-demands
+    array-write-demands
+    add-i-2
+    loop2-less
+    loop2-again
     returns)
