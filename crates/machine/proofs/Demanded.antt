@@ -1,6 +1,6 @@
 -- Another demand of a node is one byte of its storage.
 -- Assumes nothing.
-use mathlib.Core.Path.{_≡_}
+use mathlib.Core.Path.{_≡_, sym, ap, _∙_}
 use Prim.Native.Nat.{ℕ, _+_, _≤_, _<_}
 use native.Mathlib.Omega.{arith}
 use lib.Dec.{eqb}
@@ -12,8 +12,10 @@ use Rattle.lists.proofs.Places.{Apart, apart-set}
 use Rattle.allotment.specs.InPlace.{heldIn}
 use Rattle.allotment.proofs.Held.{held-alike}
 use Rattle.node.specs.InPlace.{behind}
-use Rattle.node.specs.Steps.{wantedNode}
+use Rattle.node.specs.Model.{Node}
+use Rattle.node.proofs.Made.{wanted-so}
 use Rattle.wire.specs.Phases.{phaseOf}
+use Rattle.site.specs.Members.{withNode}
 use Rattle.site.specs.Steps.{wantedMember}
 use Rattle.machine.specs.Layout.{Store, bytesSize, roomSize, nodeBytesAt, atKnown, atCounters, schedulesAt, nodeIn, storedIn}
 use Rattle.machine.specs.Written.{demanded}
@@ -25,7 +27,7 @@ module _ (s : Store) (i d : ℕ) where
 
   -- and of the node nothing but its demand
   pub demanded-stored : i < 32 → bytesSize ≤ length (s .bytes) → storedIn (demanded s i d) i ≡ wantedMember (storedIn s i) d
-  unfolding nodeIn wantedNode
+  unfolding nodeIn
   demanded-stored h b =
       let t = demanded s i d .bytes in
       let at = nodeBytesAt i + 1 in
@@ -38,29 +40,43 @@ module _ (s : Store) (i d : ℕ) where
       λ k g. held-alike t (s .bytes) k k (λ x y. p .above (k + x) (omega (arith, g))) in
       let first = p .below (nodeBytesAt i) (omega arith) in
       let own = getD-set-same (s .bytes) at d 0 (omega (arith, h, b)) in
+      let n = nodeIn s i in
+      let m : Node = record {
+        setup = n .setup;
+        version = n .version;
+        schedule = n .schedule;
+        demand = d;
+        request = n .request;
+        flags = n .flags;
+        round = n .round;
+        epoch = n .epoch;
+        phase = n .phase;
+      } in
+      let e : storedIn (demanded s i d) i ≡ withNode (storedIn s i) m =
       λ x. record {
         up = eqb (first x) 1;
         node = record {
-          setup = nodeIn s i .setup;
-          version = nodeIn s i .version;
+          setup = n .setup;
+          version = n .version;
           schedule = held (schedulesAt i) (omega arith) x;
           demand = own x;
           request = byte 2 (omega arith) x;
-          flags = nodeIn s i .flags;
+          flags = n .flags;
           round = record {
-            merged = nodeIn s i .round .merged;
+            merged = n .round .merged;
             known = list atKnown (omega arith) x;
-            lowest = nodeIn s i .round .lowest;
-            highest = nodeIn s i .round .highest;
-            heard = nodeIn s i .round .heard;
+            lowest = n .round .lowest;
+            highest = n .round .highest;
+            heard = n .round .heard;
           };
           epoch = record {
             counters = list atCounters (omega arith) x;
-            interactions = nodeIn s i .epoch .interactions;
-            place = nodeIn s i .epoch .place;
+            interactions = n .epoch .interactions;
+            place = n .epoch .place;
             updated = eqb (byte 4 (omega arith) x) 1;
             determined = held (behind (schedulesAt i)) (omega arith) x;
           };
           phase = phaseOf (byte 3 (omega arith) x);
         };
-      }
+      } in
+      e ∙ ap (withNode (storedIn s i)) (sym (wanted-so n d))

@@ -157,5 +157,6 @@ module _ {s t : Store} (i : ℕ) (p : Apart (s .words) (t .words) (nodeWordsAt i
       site-put m g e =
           let n : memberIn t i ≡ m = hit (ltb i (configIn t .nodes)) (storedIn t i) (downMember (configIn t) (i + 1))
           (ap (λ (f : Config). ltb i (f .nodes)) config-same ∙ lt-ltb i (configIn s .nodes) g) ∙ e in
-          let l = sym (tab-set nobody 32 (memberIn s) (memberIn t) (tab 32 (memberIn s)) i m refl h (sym n) (λ k _ d. sym (member-same k d))) in
+          let l = sym (tab-set nobody 32 (memberIn s) (memberIn t) (tab 32 (memberIn s)) i m refl h (sym n)
+          (λ k _ d. sym (member-same k d))) in
           λ x. record { config = config-same x; negotiates = eqb (phase-same x) 1; place = place-same x; sent = sent-same x; members = l x }

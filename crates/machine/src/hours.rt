@@ -112,8 +112,8 @@ fn give_one(bytes: &mut [u8], i: usize, d: u32)
     put_demand(bytes, i, d as u8);
 }
 
-// The demands of an epoch, given to the N nodes; an empty list gives none. The list is gone over once, and of a node that is up with windows
-// one byte is written. A node without windows keeps its demand, which needs no reading: it is given what is no demand.
+// The demands of an epoch, given to the N nodes; an empty list gives none. The list is gone over once, and of a node that is up and has
+// windows one byte is written. A node without windows keeps its demand, which needs no reading: it is given what is no demand.
 fn give(words: &[u32], bytes: &mut [u8], area: &[u8], w: &[u32], epoch: u32, nodes: u32)
     requires { ⌜ nodes ≡ siteIn (store (now words) (now bytes)) .config .nodes ⌝ }
     ensures { λ _. ⌜ now (words .entry)

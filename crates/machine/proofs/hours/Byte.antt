@@ -125,7 +125,8 @@ row-is N D ws ok j r {d} q = ap (rowGiven r) q ∙ go (hasWindows ws j) refl
     go true k =
         let g = due-given ws j 0 noDemand k in
         let h = due-range N D ws ok j 0 in
-        let v = ap (λ (x : ℕ). cond (leb x topRequest) x (r .want)) g ∙ hit _ _ _ (le-leb _ topRequest h) ∙ sym (due-given ws j 0 (r .want) k) in
+        let v = ap (λ (x : ℕ). cond (leb x topRequest) x (r .want)) g ∙ hit _ _ _ (le-leb _ topRequest h)
+        ∙ sym (due-given ws j 0 (r .want) k) in
         λ i. record { version = r .version; flags = r .flags; want = v i }
     go false k =
         let v = ap (λ (x : ℕ). cond (leb x topRequest) x (r .want)) (due-kept ws j 0 noDemand k) ∙ sym (due-kept ws j 0 (r .want) k) in

@@ -33,7 +33,9 @@ next-requires : tie.Need-next-requires
 next-requires c κs = search needs
 
 give-requires : tie.Need-give-requires
-give-requires c κs = ap (λ (k : SiteHeader). k .config .nodes) (c .before .before .before .before .before .before .before .before .before .pre)
+give-requires c κs =
+    let d = c .before .before .before .before .before .before .before .before .before in
+    ap (λ (k : SiteHeader). k .config .nodes) (d .pre)
 
 same-length : tie.Need-same-length
 same-length c = search needs

@@ -70,7 +70,8 @@ returns c =
     let e = fill-end _ 32 _ _ _ (c .before .loop .inv .2) (omega arith) (omega arith)
     ∙ tab-ext 32 _ _
     (λ k h. row-is (a .nodes) (a .day) ws (d .pre) (k + 1) (getD (a .t .rows) k noRow)
-    (ap (λ (x : List ℕ). getD x k 0) (c .before .before .before .due-all .ensures) ∙ getD-tab 0 32 (λ i. dueAt ws (i + 1) 0 noDemand) k h)) in
+    (ap (λ (x : List ℕ). getD x k 0) (c .before .before .before .due-all .ensures)
+    ∙ getD-tab 0 32 (λ i. dueAt ws (i + 1) 0 noDemand) k h)) in
     λ i. record { rows = e i }
 
 pub given-table-spec : {M : Type 1} → statement M
