@@ -4,7 +4,7 @@ ghost use Prim.Native.Nat.{_≤_, _<_};
 ghost use lib.ListN.{length};
 ghost use Rattle.machine.specs.Inner.{nextPut};
 ghost use Rattle.machine.specs.Layout.{store, wordsSize, bytesSize};
-ghost use Rattle.machine.specs.Written.{takenAt};
+ghost use Rattle.machine.specs.Written.{demanded, takenAt};
 ghost use Rattle.machine.specs.Acts.{noNodeAt, noPacket, packetSent, hearRead, heardPut, wantedPut, takenPut};
 use crate::layout::BYTES;
 use crate::layout::NODE_BYTES;
@@ -92,6 +92,16 @@ pub fn hear(words: &mut [u32], bytes: &mut [u8], j: u32, q: Packet)
     put_next(words, bytes, i, c.hear(q));
 }
 
+// The node at an index has another demand: of the node after a want only that byte is another.
+pub(crate) fn want_at(words: &[u32], bytes: &mut [u8], i: usize, d: u8)
+    requires { ⌜ (i < 32) × (wordsSize ≤ length (now words)) × (bytesSize ≤ length (now bytes)) ⌝ }
+    ensures { λ _. ⌜ now (bytes .exit) ≡ demanded (store (now (words .entry)) (now (bytes .entry))) i d .bytes ⌝ }
+{
+    let c = core_at(words, bytes, i);
+    let next = c.want(d);
+    put_demand(bytes, i, next.demand);
+}
+
 // It has another demand.
 pub fn want(words: &[u32], bytes: &mut [u8], j: u32, d: u8)
     ensures { λ _. ⌜ now (bytes .exit) ≡ wantedPut (store (now (words .entry)) (now (bytes .entry))) j d .bytes ⌝ }
@@ -99,7 +109,7 @@ pub fn want(words: &[u32], bytes: &mut [u8], j: u32, d: u8)
     if no_node(words, bytes, j) {
         return;
     }
-    put_demand(bytes, site::node_index(j), d);
+    want_at(words, bytes, site::node_index(j), d);
 }
 
 // The node at an index takes the version and schedule of the node at another.

@@ -9,7 +9,7 @@ ghost use Rattle.windows.specs.Copies.{windowsIn};
 ghost use Rattle.site.specs.Members.{headerOf};
 ghost use Rattle.node.specs.Figures.{isLast};
 ghost use Rattle.site.specs.declared.Event.the-variants.{End};
-ghost use Rattle.machine.specs.Layout.{store, siteIn, bytesSize};
+ghost use Rattle.machine.specs.Layout.{store, siteIn, wordsSize, bytesSize};
 ghost use Rattle.machine.specs.steps.After.{areaWith};
 ghost use Rattle.machine.specs.hours.Hours.{givenTable};
 ghost use Rattle.machine.specs.hours.Stored.{storedLoad, timedLoadedStore, timedLoadedSite, givenStore, dayAnswer};
@@ -18,10 +18,10 @@ ghost use Rattle.machine.specs.hours.Stored.{timedStore, timedSite, turn
 ghost use Rattle.machine.specs.hours.Inner.{rowGiven, demandGiven, dayBegun, listVerdict};
 use crate::Day;
 use crate::DayAnswer;
+use crate::acts::want_at;
 use crate::layout::BYTES;
 use crate::layout::WORDS;
 use crate::read::is_up;
-use crate::write::put_demand;
 use node::Answer;
 use node::Config;
 use site::Event;
@@ -101,15 +101,15 @@ pub fn load(
 }
 
 // A demand for the node at an index, if the node is up. A number that is no demand is given to none.
-fn give_one(bytes: &mut [u8], i: usize, d: u32)
-    requires { ⌜ (i < 32) × (bytesSize ≤ length (now bytes)) ⌝ }
+fn give_one(words: &[u32], bytes: &mut [u8], i: usize, d: u32)
+    requires { ⌜ (i < 32) × (wordsSize ≤ length (now words)) × (bytesSize ≤ length (now bytes)) ⌝ }
     ensures { λ _. ⌜ now (bytes .exit) ≡ demandGiven (now (bytes .entry)) i d ⌝ }
 {
     let up = is_up(bytes, i);
     if !((d <= allotment::TOP_REQUEST as u32) & up) {
         return;
     }
-    put_demand(bytes, i, d as u8);
+    want_at(words, bytes, i, d as u8);
 }
 
 // The demands of an epoch, given to the N nodes; an empty list gives none. The list is gone over once, and of a node that is up and has
@@ -133,7 +133,7 @@ fn give(words: &[u32], bytes: &mut [u8], area: &[u8], w: &[u32], epoch: u32, nod
     let demands = windows::due_all(w, epoch, NO_DEMAND);
     let n = crate::places(nodes) as usize;
     for i in 0..n {
-        give_one(bytes, i, demands[i]);
+        give_one(words, bytes, i, demands[i]);
     }
 }
 

@@ -27,12 +27,12 @@ returns c =
 node-index-requires : tie.Need-node-index-requires
 node-index-requires c κs = search needs
 
-put-demand-requires : tie.Need-put-demand-requires
-put-demand-requires c κs =
+want-at-requires : tie.Need-want-at-requires
+want-at-requires c κs =
     let c3 = c .before .before .before in
     let a = c3 .before .before .before .before .args in
     let h = at-place (store (a .words .now) (a .bytes .now)) (a .j) (sym (c3 .no-node .ensures) ∙ c .before .before .if1 .left) in
-    (c .node-index .ensures .1, h .1 .0)
+    (c .node-index .ensures .1, h .0, h .1 .0)
 
 same-length-2 : tie.Need-same-length-2
 same-length-2 c = search needs
@@ -48,7 +48,7 @@ returns-2 c =
     let e = at-node-index (configIn s) (a .j) (c3 .node-index .ensures .0) (at-place s (a .j) p .1 .1) in
     let z : demanded s (c3 .node-index .result) (a .d) ≡ wantedPut s (a .j) (a .d) = ap (λ (k : ℕ). demanded s k (a .d)) e
     ∙ sym (skip _ _ _ _ p refl) in
-    c .before .before .put-demand .ensures ∙ ap (λ (x : Store). x .bytes) z
+    c .before .before .want-at .ensures ∙ ap (λ (x : Store). x .bytes) z
 
 pub want-spec : {M : Type 1} → statement M
 want-spec =
@@ -58,6 +58,6 @@ want-spec =
     same-length
     returns
     node-index-requires
-    put-demand-requires
+    want-at-requires
     same-length-2
     returns-2)

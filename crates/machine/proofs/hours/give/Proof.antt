@@ -85,7 +85,9 @@ give-one-requires : tie.Need-give-one-requires Inv-loop μ-loop
 give-one-requires c κs =
     let l = c .before .before .loop in
     let h : bytesSize ≤ length (l .bytes) = omega (arith, l .inv .2, l .inv .3) in
-    (omega (arith, l .inv .1), h)
+    let c6 = c .before .before .before .before .before .before in
+    let a = c6 .before .before .before .before .before .before .before .args in
+    (omega (arith, l .inv .1), long-enough (store (a .words .now) (a .bytes .now)) (c6 .if2 .left) .0, h)
 
 add-i : tie.Need-add-i Inv-loop μ-loop
 add-i c = omega arith
@@ -111,7 +113,7 @@ loop-again c =
     (o .ensures)
     (ap (λ (x : List ℕ). getD x (l .i) 0) (c5 .before .before .due-all .ensures)
     ∙ getD-tab 0 32 (λ i. dueAt ws (i + 1) (a .epoch) noDemand) (l .i) (omega (arith, n))) in
-    (omega arith, n, o .kept .0 ∙ l .inv .2, l .inv .3, iter-more (givenAt ws (a .epoch) (a .area .now)) _ _ _ _ (l .inv .4) e)
+    (omega arith, n, o .kept .1 .0 ∙ l .inv .2, l .inv .3, iter-more (givenAt ws (a .epoch) (a .area .now)) _ _ _ _ (l .inv .4) e)
 
 same-length : tie.Need-same-length Inv-loop μ-loop
 same-length c = c .before .loop .inv .2

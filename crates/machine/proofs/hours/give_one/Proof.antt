@@ -20,17 +20,17 @@ same-length c = search needs
 
 returns : tie.Need-returns
 returns c =
-    let a = c .before .before .before .before .args in
+    let a = c .before .before .before .before .before .args in
     sym (skip _ _ _ _ (ap (λ (u : Bool). leb (a .d) topRequest && u) (sym (c .before .is-up .ensures)) ∙ not-true _ (c .if1 .taken)) refl)
 
-cast-put-demand : tie.Need-cast-put-demand
-cast-put-demand c =
-    let a = c .before .before .before .before .before .args in
+cast-want-at : tie.Need-cast-want-at
+cast-want-at c =
+    let a = c .before .before .before .before .before .before .args in
     let k = leb-true (a .d) topRequest (and-left _ _ (not-false _ (c .before .if1 .left))) in
     omega (arith, k)
 
-put-demand-requires : tie.Need-put-demand-requires
-put-demand-requires c κs = search needs
+want-at-requires : tie.Need-want-at-requires
+want-at-requires c κs = search needs
 
 same-length-2 : tie.Need-same-length-2
 same-length-2 c = search needs
@@ -38,8 +38,8 @@ same-length-2 c = search needs
 returns-2 : tie.Need-returns-2
 returns-2 c =
     let c4 = c .before .before .before .before in
-    let a = c4 .before .before .before .before .args in
-    c .before .before .put-demand .ensures
+    let a = c4 .before .before .before .before .before .args in
+    c .before .before .want-at .ensures
     ∙ sym (hit _ _ _ (ap (λ (u : Bool). leb (a .d) topRequest && u) (sym (c4 .before .is-up .ensures)) ∙ not-false _ (c4 .if1 .left)))
 
 pub give-one-spec : {M : Type 1} → statement M
@@ -50,7 +50,7 @@ give-one-spec =
     cast-if1
     same-length
     returns
-    cast-put-demand
-    put-demand-requires
+    cast-want-at
+    want-at-requires
     same-length-2
     returns-2)
