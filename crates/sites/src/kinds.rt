@@ -1,7 +1,8 @@
-// Which events are a send or a hear, of which node, and of which packet.
+// Which events are a send or a hear, of which node an event is, and which packet it hears.
 ghost use mathlib.Core.Path.{_≡_};
+ghost use Rattle.site.specs.Events.{actor};
 ghost use Rattle.group.specs.Calls.{isSend};
-ghost use Rattle.sites.specs.many.Inner.{isHear, eventNode, eventPacket};
+ghost use Rattle.sites.specs.many.Inner.{isHear, eventPacket};
 use site::Event;
 
 pub(crate) fn is_send(e: Event) -> bool
@@ -34,19 +35,19 @@ pub(crate) fn is_hear(e: Event) -> bool
     }
 }
 
-// The node of a send or a hear, 0 of any other event.
+// The node of an event, 0 of one that is of all.
 pub(crate) fn node_of(e: Event) -> u32
-    ensures { λ r. ⌜ r ≡ eventNode e ⌝ }
+    ensures { λ r. ⌜ r ≡ actor e ⌝ }
 {
     match e {
         Event::Send(j) => j,
         Event::Hear(j, _) => j,
         Event::Close => 0,
-        Event::Take(_, _) => 0,
+        Event::Take(j, _) => j,
         Event::End => 0,
-        Event::Want(_, _) => 0,
-        Event::Crash(_) => 0,
-        Event::Restart(_, _) => 0,
+        Event::Want(j, _) => j,
+        Event::Crash(j) => j,
+        Event::Restart(j, _) => j,
     }
 }
 

@@ -13,7 +13,7 @@ use Rattle.node.specs.declared.Answer.{Answer}
 use Rattle.node.specs.declared.Answer.the-variants.{Done, NotANode, NoRoom}
 use Rattle.node.proofs.Answers.{done-is, both-done}
 use Rattle.site.specs.Answers.{areaSize, siteSend, siteHear, answerOf}
-use Rattle.site.specs.Events.{isClose, isEnd}
+use Rattle.site.specs.Events.{isClose, isEnd, actor}
 use Rattle.site.specs.Model.{Site}
 use Rattle.site.specs.declared.Event.{Event}
 use Rattle.site.specs.declared.Event.the-variants.{Send, Hear, Close, Take, End, Want, Crash, Restart}
@@ -44,14 +44,14 @@ use Rattle.group.specs.Calls.{isSend, crowded}
 use Rattle.group.specs.Steps.{nextPlaces, nextBytes}
 use Rattle.group.proofs.Parts.{own-long}
 use Rattle.sites.specs.many.Memory.{Lent}
-use Rattle.sites.specs.many.Inner.{isHear, eventNode, eventPacket, OneSite, around, timedOf, sentCount, ownAreaOf, keptBy, plainBy}
+use Rattle.sites.specs.many.Inner.{isHear, eventPacket, OneSite, around, timedOf, sentCount, ownAreaOf, keptBy, plainBy}
 use Rattle.sites.specs.many.Inner.{shortBy, takenBy}
 use Rattle.sites.specs.many.Inner.{stepResultBy, storeBy, siteBy, placesBy, areaBy, reportBy, listAnswer, groupSendAnswer, sendShort}
 use Rattle.sites.specs.many.Inner.{sendTaken}
 use Rattle.sites.specs.many.Inner.{sendNumber, sendStore, sendPlaces, sendArea, groupHearAnswer, hearStore}
 use Rattle.sites.proofs.many.Areas.{timed-by, tally-by, area-by, step-answer, step-store, step-report, kept-timed, kept-tally}
 
-pub send-is : (e : Event) → isSend e ≡ true → Send (eventNode e) ≡ e
+pub send-is : (e : Event) → isSend e ≡ true → Send (actor e) ≡ e
 send-is (Send j) h = refl
 send-is (Hear j p) h = clash (isSend (Hear j p)) h refl
 send-is Close h = clash (isSend Close) h refl
@@ -61,7 +61,7 @@ send-is (Want j d) h = clash (isSend (Want j d)) h refl
 send-is (Crash j) h = clash (isSend (Crash j)) h refl
 send-is (Restart j flags) h = clash (isSend (Restart j flags)) h refl
 
-pub hear-is : (e : Event) → isHear e ≡ true → Hear (eventNode e) (eventPacket e) ≡ e
+pub hear-is : (e : Event) → isHear e ≡ true → Hear (actor e) (eventPacket e) ≡ e
 hear-is (Send j) h = clash (isHear (Send j)) h refl
 hear-is (Hear j p) h = refl
 hear-is Close h = clash (isHear Close) h refl

@@ -40,7 +40,7 @@ use Rattle.group.specs.Calls.{isSend, crowded}
 use Rattle.group.specs.Steps.{nextPlaces, nextBytes}
 use Rattle.sites.specs.many.Memory.{Memory, memory, Lent, storeAt, dayAt, siteSlotIn, placesIn, storeWords, storeBytes, tableWith}
 
--- what kind an event is, its node, and the packet that it hears
+-- whether an event is a hear, and the packet that it hears
 abbrev pub isHear : Event → Bool
 isHear (Send j) = false
 isHear (Hear j p) = true
@@ -50,16 +50,6 @@ isHear End = false
 isHear (Want j d) = false
 isHear (Crash j) = false
 isHear (Restart j flags) = false
-
-abbrev pub eventNode : Event → ℕ
-eventNode (Send j) = j
-eventNode (Hear j p) = j
-eventNode Close = 0
-eventNode (Take j i) = 0
-eventNode End = 0
-eventNode (Want j d) = 0
-eventNode (Crash j) = 0
-eventNode (Restart j flags) = 0
 
 abbrev pub eventPacket : Event → ℕ
 eventPacket (Send j) = 0
