@@ -17,10 +17,13 @@ use Rattle.sites.specs.one.Calls.{tableFrom}
 use Rattle.ledger.specs.Ledger.{Made}
 use Rattle.ledger.proofs.Witness.{Met, met}
 
-abbrev oneSite : Config
+abbrev pub oneSite : Config
 oneSite = record { nodes = 1; slots = 1; rounds = 1; «min_heard» = 1; split = 0 }
 
-loads : timedLoadAnswer oneSite (tableFrom (1 ∷ 1 ∷ 1 ∷ [])) 1 [] ≡ Done
+abbrev pub rows : List ℕ
+rows = 1 ∷ 1 ∷ 1 ∷ []
+
+pub loads : timedLoadAnswer oneSite (tableFrom rows) 1 [] ≡ Done
 unfolding timedLoadAnswer loadAnswer tableOk rowOk startAnswer configOk flagsOk allBelow listOk tableFrom tab
 loads = refl
 
@@ -28,5 +31,5 @@ loads = refl
 abbrev call : ℕ → ℕ → ℕ → Made
 call e j p = record { event = e; node = j; with = p; windows = []; tally = firstTally; reports = [] }
 
-pub example : (area : List ℕ) → Met oneSite (1 ∷ 1 ∷ 1 ∷ []) 1 [] area (call 99 0 0 ∷ call 3 0 0 ∷ call 5 0 0 ∷ [])
-example area = met oneSite (1 ∷ 1 ∷ 1 ∷ []) 1 [] area (call 99 0 0 ∷ call 3 0 0 ∷ call 5 0 0 ∷ []) refl loads
+pub example : (area : List ℕ) → Met oneSite rows 1 [] area (call 99 0 0 ∷ call 3 0 0 ∷ call 5 0 0 ∷ [])
+example area = met oneSite rows 1 [] area (call 99 0 0 ∷ call 3 0 0 ∷ call 5 0 0 ∷ []) refl loads

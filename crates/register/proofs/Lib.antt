@@ -4,3 +4,4 @@ pub mod Seats
 pub mod Numbers
 pub mod Theorem
 pub mod Witness
+pub mod Example

@@ -82,11 +82,6 @@ module _ (a : ℕ) where
   called-front m [] ys r = tt
   called-front m (x ∷ xs) ys r = (r .0, called-front (x .left) xs ys (r .1))
 
-  left-append : (m : Lending) (xs ys : Calls) → leftBy m (xs ++ ys) ≡ leftBy (leftBy m xs) ys
-  unfolding leftBy
-  left-append m [] ys = refl
-  left-append m (x ∷ xs) ys = left-append (x .left) xs ys
-
   steps-append : (m : Lending) (xs ys : Calls) → stepsOf a m (xs ++ ys) ≡ stepsOf a m xs ++ stepsOf a (leftBy m xs) ys
   unfolding leftBy stepsBy
   steps-append m [] ys = refl
@@ -154,7 +149,7 @@ module _ (r : Run) (L : Loaded r) (own : List ℕ) (long : areaSize ≤ length o
       subst (λ (g : Group). Backed own g a (loadedStory f t D ws)) (sym loaded-is)
       (begins own long area (L .room) before a f t D ws (load-plain (leftBy (r .start) (r .before) .memory) a f (r .rows) D ws load-done))
 
-  went : Goes own long a f (r .rows) D ws (r .load .left) (r .behind) []
+  pub went : Goes own long a f (r .rows) D ws (r .load .left) (r .behind) []
   went = goes own long a f (r .rows) D ws (r .load .left) (r .behind) [] fine backed (L .behind) (L .last)
 
   loads : timedLoadAnswer f t D ws ≡ Done
@@ -163,7 +158,7 @@ module _ (r : Run) (L : Loaded r) (own : List ℕ) (long : areaSize ≤ length o
   siteSlot : siteSlotOf (standsFor (leftIn r)) a ≡ Taken (aloneIn r own .timed)
   siteSlot = went .backed .mirror .siteSlot
 
-  alone : timedAt a (leftIn r) ≡ aloneIn r own .timed
+  pub alone : timedAt a (leftIn r) ≡ aloneIn r own .timed
   alone = sym (here (leftIn r .memory) (leftIn r .area) a (aloneIn r own .timed) siteSlot .timed)
 
   siteSlotTaken : siteSlotOf (standsFor (leftIn r)) a ≡ Taken (timedAt a (leftIn r))
