@@ -41,8 +41,7 @@ isSend (Crash j) = false
 isSend (Restart j flags) = false
 
 -- what the site slot of number a answers to an event: 3 where it is empty, 15 for an area under 11,520 bytes, then as
--- the site with an area of
--- its own
+-- the site with an area of its own
 abbrev pub siteSlotAnswer : Group → ℕ → SiteSlot → Call → Answer
 siteSlotAnswer g a Empty c = NoSuchNode
 siteSlotAnswer g a (Taken t) c = cond (ltb (length (g .area)) areaSize) NoRoom

@@ -426,9 +426,8 @@ fn event_tallied(
     )
 }
 
-// An event of a number: its own number, its node, and what stands behind the node in a script; the number's tally is lent. The report of an
-// accepted close goes
-// to the start of `reports`.
+// An event of a number: its own number, its node, and what stands behind the node in a script. The number's tally is lent. The report of an
+// accepted close goes to the start of `reports`.
 #[no_mangle]
 pub extern "C" fn hydra_group_event(
     words: &mut [u32],

@@ -1,6 +1,5 @@
 // A site in lent memory for desk tools in C (include/hydra-desk.h), with windows, a tally of the slots held and the reports of closes: its
-// load, its events,
-// and what a listing shows of a node.
+// load, its events, and what a listing shows of a node.
 ghost use mathlib.Core.Path.{_≡_};
 ghost use mathlib.Core.Bool.{false};
 ghost use mathlib.Core.List.{[], _∷_};

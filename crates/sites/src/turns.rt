@@ -46,9 +46,8 @@ fn listed(words: &[u32], bytes: &[u8], day: Day, w: &[u32]) -> Answer
     Answer::BadWindows
 }
 
-// A send of number a, with an area that is long enough; o is what is said of its windows. The packet goes into the lowest free place;
-// refused as 17 where the
-// site has 16 packets and the common places are taken.
+// A send of number a, with an area that is long enough; o is what is said of its windows. The packet goes into the lowest free place. It is
+// refused as 17 where the site has 16 packets and the common places are taken.
 fn send(
     words: &[u32],
     bytes: &mut [u8],

@@ -1,8 +1,8 @@
 -- `sites::hydra_group_load` meets its contract: a walk of its MIR. The lent list goes to `copied`, the tally is copied out of its borrow,
--- the slices go on to
--- `load_tallied`, and the tally that it returns is stored whole. All that the proof knows of a callee is that it meets its contract.
+-- the slices go on to `load_tallied`, and the tally that it returns is stored whole. All that the proof knows of a callee is that it meets
+-- its contract.
 -- Assumes nothing.
-use mathlib.Core.Path.{_≡_, refl, ap, _∙_}
+use mathlib.Core.Path.{_≡_, refl, ap, _∙_, subst}
 use Prim.Native.Nat.{ℕ, _<_, _^_}
 use mathlib.Core.List.{[], _∷_, List}
 use lib.ListN.{length}
@@ -45,6 +45,7 @@ use denote.Triple.Table.{entered, cited}
 use denote.Triple.Walked.{says, Stays, gave-slice, stay-none-slice, stay-none, stay-ref, walkOf, AllGo, goes-gave-slice, goes-none-slice}
 use denote.Triple.Walked.{goes-none, goes-ref, Walks, ends-at, walked, walk-meets}
 use denote.Exit.{yes}
+use Rattle.node.specs.declared.Config.{Config}
 use Rattle.windows.specs.declared.Window.{Window}
 use Rattle.windows.specs.declared.Windows.{Windows}
 use Rattle.windows.specs.Copies.{noWindows, copyFrom, listOf}
@@ -229,56 +230,48 @@ module _ {M : Type 1} (𝓤 : URA M) (H : Heap 𝓤) (A : Atoms 𝓤) (W : Given
   abbrev Post : Val → SProp 𝓤
   Post = walkOf 𝓤 H A f.ended stayed (f.clauses 𝓤 H A at-mem run) .post bound
 
-  exits : (w : Windows) (r : Tallied) (zs-words : List ℕ) (zs-bytes : List ℕ) (zs-table : List ℕ) → w ≡ copyFrom noWindows 0 ys
-      → (r ≡ rowsTold (memory xs-words xs-bytes xs-table) n-a (configFrom n-nodes n-slots n-rounds n-heard n-split) xs-rows n-day (listOf w)
-      h) × (zs-words ≡ afterRows (memory xs-words xs-bytes xs-table) n-a (configFrom n-nodes n-slots n-rounds n-heard n-split) xs-rows n-day
-      (listOf w) .words) × (zs-bytes ≡ afterRows (memory xs-words xs-bytes xs-table) n-a
-      (configFrom n-nodes n-slots n-rounds n-heard n-split) xs-rows n-day (listOf w) .bytes)
-      × (zs-table ≡ afterRows (memory xs-words xs-bytes xs-table) n-a (configFrom n-nodes n-slots n-rounds n-heard n-split) xs-rows
-      n-day (listOf w) .table) × ((area : List ℕ) → groupIn (memory zs-words zs-bytes zs-table) area
-      ≡ groupRows (memory xs-words xs-bytes xs-table) area n-a (configFrom n-nodes n-slots n-rounds n-heard n-split) xs-rows n-day
-      (listOf w)) → length zs-words ≡ length xs-words → length zs-bytes ≡ length xs-bytes → length zs-table ≡ length xs-table
+  abbrev m : sites.Memory
+  m = memory xs-words xs-bytes xs-table
+
+  abbrev figures : Config
+  figures = configFrom n-nodes n-slots n-rounds n-heard n-split
+
+  -- what is told of the load with the windows ws
+  abbrev Told : List Window → Tallied → List ℕ → List ℕ → List ℕ → Type 0
+  Told ws r zs-words zs-bytes zs-table =
+      (r ≡ rowsTold m n-a figures xs-rows n-day ws h)
+      × (zs-words ≡ afterRows m n-a figures xs-rows n-day ws .words)
+      × (zs-bytes ≡ afterRows m n-a figures xs-rows n-day ws .bytes)
+      × (zs-table ≡ afterRows m n-a figures xs-rows n-day ws .table)
+      × ((area : List ℕ) → groupIn (memory zs-words zs-bytes zs-table) area ≡ groupRows m area n-a figures xs-rows n-day ws)
+
+  -- the copy of the windows tells the same as they do
+  copied-told : (w : Windows) (r : Tallied) (zs-words zs-bytes zs-table : List ℕ) → w ≡ copyFrom noWindows 0 ys → Told (listOf w) r
+      zs-words zs-bytes zs-table → Told ys r zs-words zs-bytes zs-table
+  copied-told w r zs-words zs-bytes zs-table e₁ e =
+      let d = subst (λ (z : Windows). Told (listOf z) r zs-words zs-bytes zs-table) e₁ e in
+      let a = rows-same m n-a figures xs-rows n-day ys in (
+        d .0 ∙ rows-told-same m n-a figures xs-rows n-day ys h,
+        d .1 ∙ ap (λ (z : sites.Memory). z .words) a,
+        d .2 ∙ ap (λ (z : sites.Memory). z .bytes) a,
+        d .3 ∙ ap (λ (z : sites.Memory). z .table) a,
+        λ area. d .4 area ∙ group-loaded-same m n-a figures xs-rows n-day ys area,
+      )
+
+  exits : (r : Tallied) (zs-words zs-bytes zs-table : List ℕ) → Told ys r zs-words zs-bytes zs-table
+      → length zs-words ≡ length xs-words → length zs-bytes ≡ length xs-bytes → length zs-table ≡ length xs-table
       → r .code < 2 ^ 32
       → ent 𝓤 (⋆ 𝓤 H A (‵ (fobs γ5 (T.the-row .coded .code (r .tally))) ∷ ‵ (fbor κ5 (Body (mem T.the-row) b5 o5 γ5)) ∷ ‵ (flft κ0 q0)
       ∷ ‵ (flft κ1 q1) ∷ ‵ (flft κ2 q2) ∷ ‵ (flft κ3 q3) ∷ ‵ (flft κ4 q4) ∷ ‵ (flft κ5 q5) ∷ ‵ (finally u32 γ0 zs-words)
       ∷ ‵ (finally u8 γ1 zs-bytes) ∷ ‵ (finally u32 γ2 zs-table) ∷ ‵ Own-rows ∷ ‵ Own-windows ∷ [])) (Post (vint w32 (r .code)))
-  exits w r zs-words zs-bytes zs-table e₁ e l-words l-bytes l-table fits =
+  exits r zs-words zs-bytes zs-table e l-words l-bytes l-table fits =
       qed W (‵ (fobs γ5 (T.the-row .coded .code (r .tally))) ∷ ‵ (fbor κ5 (Body (mem T.the-row) b5 o5 γ5)) ∷ ‵ (flft κ0 q0) ∷ ‵ (flft κ1 q1)
       ∷ ‵ (flft κ2 q2) ∷ ‵ (flft κ3 q3) ∷ ‵ (flft κ4 q4) ∷ ‵ (flft κ5 q5) ∷ ‵ (finally u32 γ0 zs-words) ∷ ‵ (finally u8 γ1 zs-bytes)
       ∷ ‵ (finally u32 γ2 zs-table) ∷ ‵ Own-rows ∷ ‵ Own-windows ∷ []) ∵
       suffices ! _ (ends-at 𝓤 H A f.ended stayed (f.clauses 𝓤 H A at-mem run) W bound (vint w32 (r .code)) (r .code)
       (zs-words, (zs-bytes, (zs-table, (tt, (tt, (tt, (tt, (tt, (tt, (tt, (tt, (tt, (r .tally, tt)))))))))))))
       (l-words, (l-bytes, (l-table, (tt, (tt, (tt, (tt, (tt, (tt, (tt, (tt, (tt, (tt, tt)))))))))))))) $
-      says ! (
-        ap (λ (z : Tallied). z .code)
-            (e .0 ∙ ap (λ (z : Windows). rowsTold (memory xs-words xs-bytes xs-table) n-a
-            (configFrom n-nodes n-slots n-rounds n-heard n-split) xs-rows n-day (listOf z) h) e₁
-            ∙ rows-told-same (memory xs-words xs-bytes xs-table) n-a (configFrom n-nodes n-slots n-rounds n-heard n-split) xs-rows n-day ys
-            h),
-        e .1 ∙ ap (λ (z : Windows). afterRows (memory xs-words xs-bytes xs-table) n-a
-            (configFrom n-nodes n-slots n-rounds n-heard n-split) xs-rows n-day (listOf z) .words) e₁
-            ∙ ap (λ (z : sites.Memory). z .words)
-            (rows-same (memory xs-words xs-bytes xs-table) n-a (configFrom n-nodes n-slots n-rounds n-heard n-split) xs-rows n-day ys),
-        e .2 ∙ ap (λ (z : Windows). afterRows (memory xs-words xs-bytes xs-table) n-a
-            (configFrom n-nodes n-slots n-rounds n-heard n-split) xs-rows n-day (listOf z) .bytes) e₁
-            ∙ ap (λ (z : sites.Memory). z .bytes)
-            (rows-same (memory xs-words xs-bytes xs-table) n-a (configFrom n-nodes n-slots n-rounds n-heard n-split) xs-rows n-day
-            ys),
-        e .3 ∙ ap (λ (z : Windows). afterRows (memory xs-words xs-bytes xs-table) n-a
-            (configFrom n-nodes n-slots n-rounds n-heard n-split) xs-rows n-day (listOf z) .table) e₁
-            ∙ ap (λ (z : sites.Memory). z .table)
-            (rows-same (memory xs-words xs-bytes xs-table) n-a (configFrom n-nodes n-slots n-rounds n-heard n-split) xs-rows n-day
-            ys),
-        λ area. e .4 area ∙ ap (λ (z : Windows). groupRows (memory xs-words xs-bytes xs-table) area n-a
-            (configFrom n-nodes n-slots n-rounds n-heard n-split) xs-rows n-day (listOf z)) e₁
-            ∙ group-loaded-same (memory xs-words xs-bytes xs-table) n-a (configFrom n-nodes n-slots n-rounds n-heard n-split)
-            xs-rows n-day ys area,
-        ap (λ (z : Tallied). z .tally)
-            (e .0 ∙ ap (λ (z : Windows). rowsTold (memory xs-words xs-bytes xs-table) n-a
-            (configFrom n-nodes n-slots n-rounds n-heard n-split) xs-rows n-day (listOf z) h) e₁
-            ∙ rows-told-same (memory xs-words xs-bytes xs-table) n-a (configFrom n-nodes n-slots n-rounds n-heard n-split)
-            xs-rows n-day ys h),
-      ) $
+      says ! (ap (λ (z : Tallied). z .code) (e .0), e .1, e .2, e .3, e .4, ap (λ (z : Tallied). z .tally) (e .0)) $
       nothing ! $ move ! (8 ∷ 0 ∷ []) $ join ! $ move ! (7 ∷ 0 ∷ []) $ join ! $ move ! (6 ∷ 0 ∷ []) $ join ! $ move ! (5 ∷ 0 ∷ []) $ join !
       $ move ! (4 ∷ 0 ∷ []) $ join ! $ move ! (3 ∷ 0 ∷ []) $ join ! $ frame ! $ nothing ! $ move ! (1 ∷ 2 ∷ [])
       $ feqI ! (List Val) (vptr b5 o5 ∷ []) (vptr b5 o5 ∷ []) refl $ fjoin3 ! $ fjoin ! $ move ! (5 ∷ 0 ∷ []) $ fjoin !
@@ -473,26 +466,8 @@ module _ {M : Type 1} (𝓤 : URA M) (H : Heap 𝓤) (A : Atoms 𝓤) (W : Given
         × (List ℕ × (Unit {0} × (Unit {0}
         × (Unit {0} × (Unit {0} × (Unit {0} × (Unit {0} × (Unit {0} × (Unit {0} × (Unit {0} × (Unit {0} × Unit {0}))))))))))))). ‵
         (lasts g₂.ended (κ0, (κ1, (κ2, (κ3, tt)))) (args-inner w) zs) ⊛ raw
-        (fact 𝓤 ((r ≡ rowsTold (memory xs-words xs-bytes xs-table) n-a (configFrom n-nodes n-slots n-rounds n-heard n-split) xs-rows
-        n-day (listOf w) h) × ((zs .0) ≡ afterRows (memory xs-words xs-bytes xs-table) n-a
-        (configFrom n-nodes n-slots n-rounds n-heard n-split) xs-rows n-day (listOf w) .words)
-        × ((zs .1 .0) ≡ afterRows (memory xs-words xs-bytes xs-table) n-a (configFrom n-nodes n-slots n-rounds n-heard n-split)
-        xs-rows n-day (listOf w) .bytes)
-        × ((zs .1 .1 .0) ≡ afterRows (memory xs-words xs-bytes xs-table) n-a
-        (configFrom n-nodes n-slots n-rounds n-heard n-split) xs-rows n-day (listOf w) .table)
-        × ((area : List ℕ) → groupIn (memory (zs .0) (zs .1 .0) (zs .1 .1 .0)) area
-        ≡ groupRows (memory xs-words xs-bytes xs-table) area n-a (configFrom n-nodes n-slots n-rounds n-heard n-split) xs-rows
-        n-day (listOf w)))))) (id⊢ 𝓤 _) $ pick ! (λ zs.
-        split ! $ move ! (1 ∷ []) $ heard !
-        ((r ≡ rowsTold (memory xs-words xs-bytes xs-table) n-a (configFrom n-nodes n-slots n-rounds n-heard n-split) xs-rows n-day
-        (listOf w) h) × ((zs .0) ≡ afterRows (memory xs-words xs-bytes xs-table) n-a
-        (configFrom n-nodes n-slots n-rounds n-heard n-split) xs-rows n-day (listOf w) .words)
-        × ((zs .1 .0) ≡ afterRows (memory xs-words xs-bytes xs-table) n-a (configFrom n-nodes n-slots n-rounds n-heard n-split) xs-rows
-        n-day (listOf w) .bytes) × ((zs .1 .1 .0)
-        ≡ afterRows (memory xs-words xs-bytes xs-table) n-a (configFrom n-nodes n-slots n-rounds n-heard n-split) xs-rows n-day
-        (listOf w) .table) × ((area : List ℕ) → groupIn (memory (zs .0) (zs .1 .0) (zs .1 .1 .0)) area
-        ≡ groupRows (memory xs-words xs-bytes xs-table) area n-a (configFrom n-nodes n-slots n-rounds n-heard n-split) xs-rows n-day
-        (listOf w))) (λ e. fsplit ! $ fsplit ! $ move ! (1 ∷ [])
+        (fact 𝓤 (Told (listOf w) r (zs .0) (zs .1 .0) (zs .1 .1 .0))))) (id⊢ 𝓤 _) $ pick ! (λ zs.
+        split ! $ move ! (1 ∷ []) $ heard ! (Told (listOf w) r (zs .0) (zs .1 .0) (zs .1 .1 .0)) (λ e. fsplit ! $ fsplit ! $ move ! (1 ∷ [])
         $ feqL ! (λ l-words. move ! (1 ∷ []) $ fsplit ! $ fsplit ! $ move ! (1 ∷ [])
         $ feqL ! (λ l-bytes. move ! (1 ∷ []) $ fsplit ! $ fsplit ! $ move ! (1 ∷ []) $ feqL ! (λ l-table.
         move ! (4 ∷ []) $ split ! $ split ! $ move ! (1 ∷ []) $ split ! $ move ! (1 ∷ []) $ split ! $ move ! (1 ∷ []) $ split !
@@ -521,7 +496,7 @@ module _ {M : Type 1} (𝓤 : URA M) (H : Heap 𝓤) (A : Atoms 𝓤) (W : Given
         $ free1 ! $ move ! (22 ∷ 23 ∷ []) $ free1 ! $ move ! (20 ∷ 21 ∷ []) $ free1 ! $ move ! (18 ∷ 19 ∷ []) $ free1 !
         $ move ! (16 ∷ 17 ∷ []) $ free1 ! $ move ! (14 ∷ 15 ∷ []) $ free1 ! $ free0 ! $
         keep ! (0 ∷ 1 ∷ 6 ∷ 5 ∷ 4 ∷ 3 ∷ 12 ∷ 2 ∷ 10 ∷ 9 ∷ 7 ∷ 11 ∷ 13 ∷ [])
-        $ by ! (exits w r (zs .0) (zs .1 .0) (zs .1 .1 .0) e₁ e l-words l-bytes l-table
+        $ by ! (exits r (zs .0) (zs .1 .0) (zs .1 .1 .0) (copied-told w r (zs .0) (zs .1 .0) (zs .1 .1 .0) e₁ e) l-words l-bytes l-table
         (LL.owed E.the-type E′.the-laws r _ is .0 .1)))))))))))))))))))))))))))))))))))))))
 
 module _ {M : Type 1} (𝓤 : URA M) (H : Heap 𝓤) (A : Atoms 𝓤) (W : Given 𝓤 H A) (at-mem : Memory → SProp 𝓤) (run : Routine → Fun 𝓤)

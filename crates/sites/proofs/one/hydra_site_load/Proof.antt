@@ -1,8 +1,8 @@
--- `lent::hydra_site_load` meets its contract: a walk of its MIR. The lent list goes to `copied`, the tally is copied out of its borrow, the
--- slices go on to
--- `load_tallied`, and the tally that it returns is stored whole. All that the proof knows of a callee is that it meets its contract.
+-- `sites::hydra_site_load` meets its contract: a walk of its MIR. The lent list goes to `copied`, the tally is copied out of its borrow,
+-- the slices go on to `load_tallied`, and the tally that it returns is stored whole. All that the proof knows of a callee is that it meets
+-- its contract.
 -- Assumes nothing.
-use mathlib.Core.Path.{_≡_, refl, ap, _∙_}
+use mathlib.Core.Path.{_≡_, refl, ap, _∙_, subst}
 use Prim.Native.Nat.{ℕ, _<_, _^_}
 use mathlib.Core.List.{[], _∷_, List}
 use lib.ListN.{length}
@@ -45,6 +45,7 @@ use denote.Triple.Table.{entered, cited}
 use denote.Triple.Walked.{says, Stays, gave-slice, stay-none-slice, stay-none, stay-ref, walkOf, AllGo, goes-gave-slice, goes-none-slice}
 use denote.Triple.Walked.{goes-none, goes-ref, Walks, ends-at, walked, walk-meets}
 use denote.Exit.{yes}
+use Rattle.node.specs.declared.Config.{Config}
 use Rattle.windows.specs.declared.Window.{Window}
 use Rattle.windows.specs.declared.Windows.{Windows}
 use Rattle.windows.specs.Copies.{noWindows, copyFrom, listOf}
@@ -196,47 +197,45 @@ module _ {M : Type 1} (𝓤 : URA M) (H : Heap 𝓤) (A : Atoms 𝓤) (W : Given
   abbrev Post : Val → SProp 𝓤
   Post = walkOf 𝓤 H A f.ended stayed (f.clauses 𝓤 H A at-mem run) .post bound
 
-  exits : (w : Windows) (r : Tallied) (zs-words : List ℕ) (zs-bytes : List ℕ) → w ≡ copyFrom noWindows 0 ys
-      → (r ≡ loadTallied (store xs-words xs-bytes) (configFrom n-nodes n-slots n-rounds n-heard n-split) xs-rows n-day (listOf w) h)
-      × (zs-words ≡ afterLoad (store xs-words xs-bytes) (configFrom n-nodes n-slots n-rounds n-heard n-split) xs-rows n-day (listOf w)
-      .words) × (zs-bytes ≡ afterLoad (store xs-words xs-bytes) (configFrom n-nodes n-slots n-rounds n-heard n-split) xs-rows n-day
-      (listOf w) .bytes) × (timedOf (store zs-words zs-bytes)
-      ≡ timedAfterLoad (store xs-words xs-bytes) (configFrom n-nodes n-slots n-rounds n-heard n-split) xs-rows n-day (listOf w))
+  abbrev s : Store
+  s = store xs-words xs-bytes
+
+  abbrev figures : Config
+  figures = configFrom n-nodes n-slots n-rounds n-heard n-split
+
+  -- what is told of the load with the windows ws
+  abbrev Told : List Window → Tallied → List ℕ → List ℕ → Type 0
+  Told ws r zs-words zs-bytes =
+      (r ≡ loadTallied s figures xs-rows n-day ws h)
+      × (zs-words ≡ afterLoad s figures xs-rows n-day ws .words)
+      × (zs-bytes ≡ afterLoad s figures xs-rows n-day ws .bytes)
+      × (timedOf (store zs-words zs-bytes) ≡ timedAfterLoad s figures xs-rows n-day ws)
+
+  -- the copy of the windows tells the same as they do
+  copied-told : (w : Windows) (r : Tallied) (zs-words zs-bytes : List ℕ) → w ≡ copyFrom noWindows 0 ys → Told (listOf w) r zs-words
+      zs-bytes → Told ys r zs-words zs-bytes
+  copied-told w r zs-words zs-bytes e₁ e =
+      let d = subst (λ (z : Windows). Told (listOf z) r zs-words zs-bytes) e₁ e in
+      let a = load-same s figures xs-rows n-day ys in (
+        d .0 ∙ load-tallied-same s figures xs-rows n-day ys h,
+        d .1 ∙ ap (λ (z : Store). z .words) a,
+        d .2 ∙ ap (λ (z : Store). z .bytes) a,
+        d .3 ∙ timed-same s figures xs-rows n-day ys,
+      )
+
+  exits : (r : Tallied) (zs-words zs-bytes : List ℕ) → Told ys r zs-words zs-bytes
       → length zs-words ≡ length xs-words → length zs-bytes ≡ length xs-bytes → r .code < 2 ^ 32
       → ent 𝓤 (⋆ 𝓤 H A (‵ (fobs γ4 (T.the-row .coded .code (r .tally))) ∷ ‵ (fbor κ4 (Body (mem T.the-row) b4 o4 γ4)) ∷ ‵ (flft κ0 q0)
       ∷ ‵ (flft κ1 q1) ∷ ‵ (flft κ2 q2) ∷ ‵ (flft κ3 q3) ∷ ‵ (flft κ4 q4) ∷ ‵ (finally u32 γ0 zs-words) ∷ ‵ (finally u8 γ1 zs-bytes)
       ∷ ‵ Own-rows ∷ ‵ Own-windows ∷ [])) (Post (vint w32 (r .code)))
-  exits w r zs-words zs-bytes e₁ e l-words l-bytes fits =
+  exits r zs-words zs-bytes e l-words l-bytes fits =
       qed W (‵ (fobs γ4 (T.the-row .coded .code (r .tally))) ∷ ‵ (fbor κ4 (Body (mem T.the-row) b4 o4 γ4)) ∷ ‵ (flft κ0 q0) ∷ ‵ (flft κ1 q1)
       ∷ ‵ (flft κ2 q2) ∷ ‵ (flft κ3 q3) ∷ ‵ (flft κ4 q4) ∷ ‵ (finally u32 γ0 zs-words) ∷ ‵ (finally u8 γ1 zs-bytes) ∷ ‵ Own-rows
       ∷ ‵ Own-windows ∷ []) ∵
       suffices ! _ (ends-at 𝓤 H A f.ended stayed (f.clauses 𝓤 H A at-mem run) W bound (vint w32 (r .code)) (r .code)
       (zs-words, (zs-bytes, (tt, (tt, (tt, (tt, (tt, (tt, (tt, (tt, (r .tally, tt)))))))))))
       (l-words, (l-bytes, (tt, (tt, (tt, (tt, (tt, (tt, (tt, (tt, (tt, tt)))))))))))) $
-      says ! (
-        ap (λ (z : Tallied). z .code)
-            (e .0 ∙ ap (λ (z : Windows). loadTallied (store xs-words xs-bytes) (configFrom n-nodes n-slots n-rounds n-heard n-split) xs-rows
-            n-day (listOf z) h) e₁ ∙ load-tallied-same (store xs-words xs-bytes) (configFrom n-nodes n-slots n-rounds n-heard n-split)
-            xs-rows
-            n-day ys h),
-        e .1 ∙ ap (λ (z : Windows). afterLoad (store xs-words xs-bytes)
-            (configFrom n-nodes n-slots n-rounds n-heard n-split) xs-rows n-day (listOf z) .words) e₁
-            ∙ ap (λ (z : Store). z .words) (load-same (store xs-words xs-bytes) (configFrom n-nodes n-slots n-rounds n-heard n-split)
-            xs-rows n-day ys),
-        e .2 ∙ ap (λ (z : Windows). afterLoad (store xs-words xs-bytes)
-            (configFrom n-nodes n-slots n-rounds n-heard n-split) xs-rows n-day (listOf z) .bytes) e₁
-            ∙ ap (λ (z : Store). z .bytes) (load-same (store xs-words xs-bytes)
-            (configFrom n-nodes n-slots n-rounds n-heard n-split) xs-rows n-day ys),
-        e .3
-            ∙ ap (λ (z : Windows). timedAfterLoad (store xs-words xs-bytes) (configFrom n-nodes n-slots n-rounds n-heard n-split)
-            xs-rows n-day (listOf z)) e₁ ∙ timed-same (store xs-words xs-bytes)
-            (configFrom n-nodes n-slots n-rounds n-heard n-split) xs-rows n-day ys,
-        ap (λ (z : Tallied). z .tally) (e .0
-            ∙ ap (λ (z : Windows). loadTallied (store xs-words xs-bytes)
-            (configFrom n-nodes n-slots n-rounds n-heard n-split) xs-rows n-day (listOf z) h) e₁
-            ∙ load-tallied-same (store xs-words xs-bytes) (configFrom n-nodes n-slots n-rounds n-heard n-split) xs-rows
-            n-day ys h),
-      ) $
+      says ! (ap (λ (z : Tallied). z .code) (e .0), e .1, e .2, e .3, ap (λ (z : Tallied). z .tally) (e .0)) $
       nothing ! $ move ! (7 ∷ 0 ∷ []) $ join ! $ move ! (6 ∷ 0 ∷ []) $ join ! $ move ! (5 ∷ 0 ∷ []) $ join ! $ move ! (4 ∷ 0 ∷ []) $ join !
       $ move ! (3 ∷ 0 ∷ []) $ join ! $ frame ! $ nothing ! $ move ! (1 ∷ 2 ∷ [])
       $ feqI ! (List Val) (vptr b4 o4 ∷ []) (vptr b4 o4 ∷ []) refl $ fjoin3 ! $ fjoin ! $ move ! (4 ∷ 0 ∷ []) $ fjoin !
@@ -400,19 +399,8 @@ module _ {M : Type 1} (𝓤 : URA M) (H : Heap 𝓤) (A : Atoms 𝓤) (W : Given
         × (Unit {0} × (Unit {0} × (Unit {0}
         × (Unit {0} × (Unit {0} × (Unit {0} × (Unit {0} × (Unit {0} × (Unit {0} × Unit {0}))))))))))). ‵
         (lasts g₂.ended (κ0, (κ1, (κ2, tt))) (args-inner w) zs) ⊛ raw
-        (fact 𝓤 ((r ≡ loadTallied (store xs-words xs-bytes) (configFrom n-nodes n-slots n-rounds n-heard n-split) xs-rows n-day
-        (listOf w) h) × ((zs .0) ≡ afterLoad (store xs-words xs-bytes) (configFrom n-nodes n-slots n-rounds n-heard n-split) xs-rows
-        n-day (listOf w) .words) × ((zs .1 .0)
-        ≡ afterLoad (store xs-words xs-bytes) (configFrom n-nodes n-slots n-rounds n-heard n-split) xs-rows n-day (listOf w) .bytes)
-        × (timedOf (store (zs .0) (zs .1 .0))
-        ≡ timedAfterLoad (store xs-words xs-bytes) (configFrom n-nodes n-slots n-rounds n-heard n-split) xs-rows n-day
-        (listOf w)))))) (id⊢ 𝓤 _) $ pick ! (λ zs.
-        split ! $ move ! (1 ∷ []) $ heard !
-        ((r ≡ loadTallied (store xs-words xs-bytes) (configFrom n-nodes n-slots n-rounds n-heard n-split) xs-rows n-day (listOf w) h)
-        × ((zs .0) ≡ afterLoad (store xs-words xs-bytes) (configFrom n-nodes n-slots n-rounds n-heard n-split) xs-rows n-day (listOf w)
-        .words) × ((zs .1 .0) ≡ afterLoad (store xs-words xs-bytes) (configFrom n-nodes n-slots n-rounds n-heard n-split) xs-rows n-day
-        (listOf w) .bytes) × (timedOf (store (zs .0) (zs .1 .0))
-        ≡ timedAfterLoad (store xs-words xs-bytes) (configFrom n-nodes n-slots n-rounds n-heard n-split) xs-rows n-day (listOf w)))
+        (fact 𝓤 (Told (listOf w) r (zs .0) (zs .1 .0))))) (id⊢ 𝓤 _) $ pick ! (λ zs.
+        split ! $ move ! (1 ∷ []) $ heard ! (Told (listOf w) r (zs .0) (zs .1 .0))
         (λ e. fsplit ! $ fsplit ! $ move ! (1 ∷ [])
         $ feqL ! (λ l-words. move ! (1 ∷ []) $ fsplit ! $ fsplit ! $ move ! (1 ∷ []) $ feqL ! (λ l-bytes.
         move ! (3 ∷ []) $ split ! $ split ! $ move ! (1 ∷ []) $ split ! $ move ! (1 ∷ []) $ split ! $ move ! (1 ∷ []) $ drop !
@@ -440,7 +428,7 @@ module _ {M : Type 1} (𝓤 : URA M) (H : Heap 𝓤) (A : Atoms 𝓤) (W : Given
         $ move ! (20 ∷ 21 ∷ []) $ free1 ! $ move ! (18 ∷ 19 ∷ []) $ free1 ! $ move ! (16 ∷ 17 ∷ []) $ free1 ! $ move ! (14 ∷ 15 ∷ [])
         $ free1 ! $ move ! (12 ∷ 13 ∷ []) $ free1 ! $ free0 ! $
         keep ! (0 ∷ 1 ∷ 5 ∷ 4 ∷ 3 ∷ 10 ∷ 2 ∷ 8 ∷ 6 ∷ 9 ∷ 11 ∷ [])
-        $ by ! (exits w r (zs .0) (zs .1 .0) e₁ e l-words l-bytes
+        $ by ! (exits r (zs .0) (zs .1 .0) (copied-told w r (zs .0) (zs .1 .0) e₁ e) l-words l-bytes
         (LL.owed E.the-type E′.the-laws r _ is .0 .1))))))))))))))))))))))))))))))))))
 
 module _ {M : Type 1} (𝓤 : URA M) (H : Heap 𝓤) (A : Atoms 𝓤) (W : Given 𝓤 H A) (at-mem : Memory → SProp 𝓤) (run : Routine → Fun 𝓤)
