@@ -33,18 +33,21 @@ fn compare(random: &mut Random, script: &[u8], day: u32, list: &[Window]) -> Vec
     let mut output_after = output.clone();
     output_after[..printed.len()].copy_from_slice(&printed);
     let text = String::from_utf8_lossy(script);
-    assert_eq!(
-        (answer, length as usize),
-        (0, printed.len()),
-        "{text}\n{day} {list:?}"
-    );
-    assert!(
-        lent_output.is(&output_after),
-        "{}\nexpected\n{}\nfor\n{text}\n{day} {list:?}",
-        String::from_utf8_lossy(&lent_output.contents()[..printed.len()]),
-        String::from_utf8_lossy(&printed)
-    );
-    assert!(lent_area.is(&area), "the packet area after\n{text}");
+    let expect = |by: &str, answer: u32, length: u32, written: &Lent, packets: &Lent| {
+        assert_eq!(
+            (answer, length as usize),
+            (0, printed.len()),
+            "{by} on\n{text}\n{day} {list:?}"
+        );
+        assert!(
+            written.is(&output_after),
+            "{by} wrote\n{}\nexpected\n{}\nfor\n{text}\n{day} {list:?}",
+            String::from_utf8_lossy(&written.contents()[..printed.len()]),
+            String::from_utf8_lossy(&printed)
+        );
+        assert!(packets.is(&area), "the packet area of {by} after\n{text}");
+    };
+    expect("the call", answer, length, &lent_output, &lent_area);
     let mut plain_area = Lent::new(&before);
     let mut plain_output = Lent::new(&output);
     length = 0;
@@ -56,16 +59,7 @@ fn compare(random: &mut Random, script: &[u8], day: u32, list: &[Window]) -> Vec
         day,
         list,
     );
-    assert_eq!(
-        (answer, length as usize),
-        (0, printed.len()),
-        "plain C on\n{text}"
-    );
-    assert!(
-        plain_output.is(&output_after),
-        "plain C on\n{text}\n{day} {list:?}"
-    );
-    assert!(plain_area.is(&area), "plain C's packet area after\n{text}");
+    expect("plain C", answer, length, &plain_output, &plain_area);
     printed
 }
 
