@@ -1,3 +1,4 @@
+-- The parts of the site and of the places go through one turn, come back to where they lay, and its day is written.
 use mathlib.Core.Path.{_≡_, sym, ap, ap₂, _∙_}
 use Prim.Native.Nat.{_-_, _+_, _*_}
 use native.Mathlib.Omega.{arith}

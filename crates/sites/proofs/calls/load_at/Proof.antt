@@ -1,3 +1,4 @@
+-- The machine loads the part of the site; where it is done, the number's places are freed and its slot is taken.
 use mathlib.Core.Path.{_≡_, refl, sym, ap, _∙_}
 use Prim.Native.Nat.{_-_}
 use native.Mathlib.Omega.{arith}

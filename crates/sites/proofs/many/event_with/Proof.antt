@@ -1,3 +1,4 @@
+-- Three numbers that make no event are answered by themselves; an event goes to its step.
 use mathlib.Core.Path.{sym, _∙_}
 use Rattle.script.specs.events.Events.{eventAt}
 use Rattle.windows.specs.Copies.{windowsIn}

@@ -1,3 +1,4 @@
+-- The lengths are tested first; then the table's own part is cleared, which stands for a vacant group.
 use mathlib.Core.Path.{_≡_, refl, sym, ap, _∙_}
 use Prim.Native.Nat.{ℕ, _-_, _+_}
 use mathlib.Core.Bool.{true, false}

@@ -1,3 +1,4 @@
+-- The number and the lengths are tested first; then the load goes to its site.
 use mathlib.Core.Path.{sym, _∙_}
 use Prim.Native.Nat.{_-_}
 use native.Mathlib.Omega.{arith}

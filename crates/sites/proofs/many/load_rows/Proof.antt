@@ -1,3 +1,4 @@
+-- Rows of the right number make a table and go to the load; any others are refused in its order.
 use mathlib.Core.Path.{sym, _∙_, subst}
 use Prim.Native.Nat.{_-_}
 use borrow.Author.Tests.{eq-eqb, ne-eqb, not-true, not-false}

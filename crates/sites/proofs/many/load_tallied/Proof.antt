@@ -1,3 +1,4 @@
+-- The copied windows go to the load as words; the tally is set anew where it is done.
 use mathlib.Core.Path.{refl, sym, _∙_, subst}
 use mathlib.Core.List.{List}
 use borrow.Author.Tests.{eq-eqb, ne-eqb}

@@ -1,3 +1,4 @@
+-- What is said of the number decides first; an event of a loaded one goes to its site.
 use mathlib.Core.Path.{sym, ap, _∙_}
 use Prim.Native.Nat.{_-_}
 use native.Mathlib.Omega.{arith}

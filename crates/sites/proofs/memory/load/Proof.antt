@@ -1,3 +1,4 @@
+-- The lengths and the number of rows are tested first; an accepted load writes its day behind the storage.
 use mathlib.Core.Path.{sym, _∙_}
 use native.Mathlib.Omega.{arith}
 use borrow.Author.Tests.{not-true, not-false}

@@ -1,3 +1,4 @@
+-- The lengths are tested first; then the machine steps with the day that is read, and the day behind the step is written.
 use mathlib.Core.Path.{sym, _∙_}
 use native.Mathlib.Omega.{arith}
 use Rattle.windows.specs.Copies.{windowsIn}

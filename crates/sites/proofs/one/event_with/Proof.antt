@@ -1,3 +1,4 @@
+-- Three numbers that make no event are answered by themselves; an event goes to its step.
 use mathlib.Core.Path.{sym, _∙_}
 use Prim.Native.Nat.{_-_}
 use Rattle.windows.specs.Copies.{windowsIn}

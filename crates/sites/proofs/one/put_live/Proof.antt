@@ -1,3 +1,4 @@
+-- The five parts of a live node's bytes are put one behind another.
 use mathlib.Core.List.{[], _∷_}
 use mathlib.Core.Path.{_≡_, refl, sym, ap, _∙_}
 use lib.ListN.{length, replicate}

@@ -1,3 +1,4 @@
+-- A slot that is not taken has nothing; of a taken one the packets of its part are counted.
 use mathlib.Core.Path.{refl, sym, ap}
 use Prim.Native.Nat.{_-_}
 use native.Mathlib.Omega.{arith}

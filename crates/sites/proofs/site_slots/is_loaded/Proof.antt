@@ -1,3 +1,4 @@
+-- The number and the lengths are tested first; then the slot's first word tells.
 use mathlib.Core.Path.{_≡_, sym, ap, _∙_}
 use Prim.Native.Nat.{_-_}
 use native.Mathlib.Omega.{arith}
