@@ -1,6 +1,8 @@
 // The lines of a script: where the next one ends, and the two to five numbers in one, with one space between.
 ghost use mathlib.Core.Path.{_≡_};
-ghost use Rattle.text.specs.Read.{split};
+ghost use Prim.Native.Nat.{_≤_, _+_};
+ghost use lib.ListN.{length, drop};
+ghost use Rattle.text.specs.Read.{split, before};
 ghost use Rattle.script.specs.lines.Lines.{lineAt};
 ghost use Rattle.script.specs.lines.Fields.{both, twoOf, with3, threeOf, with4, fourOf, with5, fiveOf};
 use crate::Five;
@@ -10,6 +12,44 @@ use crate::Three;
 use crate::Two;
 use text::Num;
 
+// Where the first byte 10 from a place on stands; the script's end where there is none. Eight bytes a turn: the place is no register's in a
+// run, and a turn for each byte would store and load it.
+fn line_end(s: &[u8], at: usize) -> usize
+    requires { ⌜ at ≤ length (now s) ⌝ }
+    ensures { λ r. ⌜ r ≡ at + before 10 (drop at (now (s .entry))) ⌝ }
+    ensures within { λ r. ⌜ r ≤ length (now (s .entry)) ⌝ }
+{
+    let mut i = at;
+    while 8 <= s.len() - i {
+        if s[i] == 10 {
+            return i;
+        }
+        if s[i + 1] == 10 {
+            return i + 1;
+        }
+        if s[i + 2] == 10 {
+            return i + 2;
+        }
+        if s[i + 3] == 10 {
+            return i + 3;
+        }
+        if s[i + 4] == 10 {
+            return i + 4;
+        }
+        if s[i + 5] == 10 {
+            return i + 5;
+        }
+        if s[i + 6] == 10 {
+            return i + 6;
+        }
+        if s[i + 7] == 10 {
+            return i + 7;
+        }
+        i += 8;
+    }
+    i + text::find(&s[i..], 10)
+}
+
 // The line at a place of a script.
 pub fn next_line(s: &[u8], at: usize) -> Line
     ensures { λ r. ⌜ r ≡ lineAt (now (s .entry)) at ⌝ }
@@ -17,11 +57,11 @@ pub fn next_line(s: &[u8], at: usize) -> Line
     if s.len() <= at {
         return Line::Nothing;
     }
-    let e = text::find(&s[at..], 10);
-    if e == s.len() - at {
+    let e = line_end(s, at);
+    if e == s.len() {
         return Line::Open;
     }
-    Line::Ended(at + e)
+    Line::Ended(e)
 }
 
 // Two numbers, where both are.

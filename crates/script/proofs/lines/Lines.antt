@@ -1,4 +1,4 @@
--- The line at a place of a script, as find found its end, and what the pieces are then.
+-- The line at a place of a script, as its end was found, and what the pieces are then.
 -- Assumes nothing.
 use mathlib.Core.Path.{_≡_, refl, sym, ap, _∙_}
 use mathlib.Core.Bool.{Bool, true, false}
@@ -7,28 +7,21 @@ use Prim.Native.Nat.{ℕ, suc, _+_, _-_, _≤_, _<_}
 use native.Mathlib.Omega.{arith}
 use borrow.Author.Tests.{eqb-true, eqb-false}
 use lib.Dec.{eqb}
-use lib.ListN.{length, take, drop, drop-of-length-le, length-drop}
+use lib.ListN.{length, getD, take, drop, drop-of-length-le, length-drop}
 use lib.Seq.{drop-cons, drop-drop, length-take-le}
 use Rattle.text.specs.Read.{before, split}
-use Rattle.text.proofs.Pieces.{before-le, split-last, split-cut, last-piece, first-piece, behind, behind-is, Some, split-some}
+use Rattle.text.proofs.Pieces.{before-le, before-more, split-last, split-cut, Some, split-some}
 use Rattle.script.specs.lines.Lines.{onLine, lineIn, lineAt}
 use Rattle.script.specs.declared.Line.the-variants.{Nothing, Open, Ended}
 
--- at a place of the script, find found e
-module _ (s : List ℕ) (at e : ℕ) (f : e ≡ before 10 (behind at s)) where
-  last-line : e ≡ length s - at → split 10 (drop at s) ≡ drop at s ∷ []
-  last-line g = rw (behind-is at s) at (last-piece 10 (behind at s) e f (g ∙ sym (ap length (behind-is at s) ∙ length-drop at s)))
-
-  next-line : e ≤ length (behind at s) → (e ≡ length s - at → ⊥)
-      → split 10 (drop at s) ≡ take (at + e - at) (drop at s) ∷ split 10 (drop (at + e + 1) s)
-  next-line k g =
-      let b : length (behind at s) ≡ length s - at = ap length (behind-is at s) ∙ length-drop at s in
-      let w : split 10 (behind at s) ≡ take e (behind at s) ∷ split 10 (behind (e + 1) (behind at s)) = first-piece 10 (behind at s) e f k
-      (λ x. g (x ∙ b)) in
-      let u : split 10 (drop at s) ≡ take e (drop at s) ∷ split 10 (behind (e + 1) (drop at s)) = rw (behind-is at s) at w in
-      let x : at + e - at ≡ e = omega arith in
-      let y : at + e + 1 ≡ at + (e + 1) = omega arith in
-      rw (x, y, ← drop-drop (e + 1) at s, ← behind-is (e + 1) (drop at s)) u
+-- a byte that is none before the line's end
+pub none-there : (s : List ℕ) (i k : ℕ) {e : ℕ} → i + k < length s → e ≡ i + k + before 10 (drop (i + k) s) → (getD s (i + k) 0 ≡ 10 → ⊥)
+    → e ≡ i + suc k + before 10 (drop (i + suc k) s)
+none-there s i k h p f =
+    let x : i + k + 1 ≡ i + suc k = omega arith in
+    let n : before 10 (drop (i + k) s) ≡ suc (before 10 (drop (i + suc k) s)) = before-more 10 s (i + k) h f
+    ∙ ap (λ (j : ℕ). suc (before 10 (drop j s))) x in
+    omega arith
 
 -- a piece with others behind it is an ended line
 pub on-cut : {A : Type 0} (none unended : A) (ended : List ℕ → List (List ℕ) → A) (l : List ℕ) (ps : List (List ℕ)) → Some ps
@@ -42,26 +35,25 @@ line-cut : (at : ℕ) (l : List ℕ) (ps : List (List ℕ)) → Some ps → line
 unfolding lineIn
 line-cut at = on-cut Nothing Open _
 
--- the line at a place, as find found its end
+-- the line at a place, as its end was found
 module _ (s : List ℕ) (at : ℕ) where
   pub line-none : length s ≤ at → lineAt s at ≡ Nothing
   unfolding lineIn onLine split
   line-none h = rw (drop-of-length-le s h)
 
-  module _ (h : at < length s) (e : ℕ) (f : e ≡ before 10 (behind at s)) where
-    pub line-open : e ≡ length s - at → lineAt s at ≡ Open
+  module _ (h : at < length s) (e : ℕ) (f : e ≡ at + before 10 (drop at s)) where
+    pub line-open : e ≡ length s → lineAt s at ≡ Open
     unfolding lineIn onLine
-    line-open g = rw (last-line s at e f g, drop-cons s at 0 h)
+    line-open g = rw (split-last 10 (drop at s) (omega (arith, length-drop at s)), drop-cons s at 0 h)
 
-    pub line-ended : e ≤ length (behind at s) → (e ≡ length s - at → ⊥) → lineAt s at ≡ Ended (at + e)
+    pub line-ended : e ≤ length s → (e ≡ length s → ⊥) → lineAt s at ≡ Ended e
     line-ended k g =
-        let b : length (behind at s) ≡ length s - at = ap length (behind-is at s) ∙ length-drop at s in
-        let x : at + e - at ≡ e = omega arith in
-        let y : length (take (at + e - at) (drop at s)) ≡ e = ap (λ (n : ℕ). length (take n (drop at s))) x
-        ∙ length-take-le e (drop at s) (omega (arith, length-drop at s)) in
-        ap (lineIn at) (next-line s at e f k g)
-        ∙ line-cut at (take (at + e - at) (drop at s)) (split 10 (drop (at + e + 1) s)) (split-some 10 (drop (at + e + 1) s))
-        ∙ ap (λ (n : ℕ). Ended (at + n)) y
+        let n = before 10 (drop at s) in
+        let l : length (drop at s) ≡ length s - at = length-drop at s in
+        let m : n ≤ length (drop at s) = before-le 10 (drop at s) in
+        ap (lineIn at) (split-cut 10 (drop at s) (omega arith))
+        ∙ line-cut at (take n (drop at s)) (split 10 (drop (suc n) (drop at s))) (split-some 10 (drop (suc n) (drop at s)))
+        ∙ ap (λ (x : ℕ). Ended (at + x)) (length-take-le n (drop at s) m) ∙ ap Ended (sym f)
 
 -- an ended line: its piece, and where its byte 10 stands
 pub record Whole (s : List ℕ) (at e : ℕ) : Type 0 where
