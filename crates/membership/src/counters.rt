@@ -1,7 +1,9 @@
 // How often each node was heard in an epoch, and whom its end counts: lines 31, 47 and 51 to 54 of Algorithm 1.
 ghost use mathlib.Core.Path.{_≡_};
 ghost use mathlib.Core.Bool.{cond};
-ghost use lib.ListN.{replicate};
+ghost use lib.Dec.{leb};
+ghost use lib.ListN.{getD, replicate};
+ghost use Rattle.words.specs.Bits.{wordOf};
 ghost use Rattle.membership.specs.counters.Counters.{plus, counted, withSelf, membersOf};
 
 // A counter, one more where its node was heard; it stops at 255.
@@ -40,19 +42,34 @@ pub fn with_self(w: u32, j: u32) -> u32
     w
 }
 
-// The nodes with C_e of at least `heard`, and the node itself: lines 51 to 54.
-pub fn members_of(counters: [u8; 32], node: u32, heard: u32) -> u32
-    ensures { λ r. ⌜ r ≡ membersOf counters node heard ⌝ }
+// Whether a counter is at least `heard`. Compared as bytes: so the 32 counters are two vectors, and not eight.
+fn is_often(x: u8, heard: u32) -> bool
+    ensures { λ r. ⌜ r ≡ leb heard x ⌝ }
+{
+    if 255 < heard {
+        return false;
+    }
+    heard as u8 <= x
+}
+
+// The nodes with C_e of at least `heard`.
+fn heard_often(counters: [u8; 32], heard: u32) -> u32
+    ensures { λ r. ⌜ r ≡ wordOf 32 (λ i. leb heard (getD counters i 0)) ⌝ }
 {
     let mut w: u32 = 0;
     for i in 0..32usize {
-        let often = heard <= counters[i] as u32;
-        let own = (i + 1) as u32 == node;
-        if often | own {
+        if is_often(counters[i], heard) {
             w = words::with(w, i as u32);
         }
     }
     w
+}
+
+// These, and the node itself: lines 51 to 54.
+pub fn members_of(counters: [u8; 32], node: u32, heard: u32) -> u32
+    ensures { λ r. ⌜ r ≡ membersOf counters node heard ⌝ }
+{
+    with_self(heard_often(counters, heard), node)
 }
 
 fn bound(none: bool) -> u8

@@ -3,16 +3,18 @@
 use mathlib.Core.Path.{_≡_, refl, sym, ap, ap₂, _∙_}
 use mathlib.Core.Bool.{Bool, true, false, cond, _||_}
 use mathlib.Core.List.{List}
-use Prim.Native.Nat.{ℕ, suc, _+_, _-_, _^_, _≤_, _<_}
+use Prim.Native.Nat.{ℕ, zero, suc, _+_, _-_, _^_, _≤_, _<_}
 use native.Mathlib.Omega.{arith}
 use borrow.Author.Tests.{ltb-true, ltb-false, le-leb, lt-leb, lt-ltb, eq-eqb, ne-eqb}
 use lib.Bits
+use lib.Bits.{or-lt}
+use lib.Pow.{pow-lt}
 use lib.Dec.{eqb, leb, ltb}
 use lib.ListN.{length, getD, replicate, List·getD-eq-default}
 use lib.Seq.{ext-getD}
 use Rattle.words.specs.Bits.{hasBit, isIn, wordOf, withBit}
-use Rattle.words.proofs.Tests.{by-test, both, or-back, hit}
-use Rattle.words.proofs.Laws.{hasBit-out, hasBit-wordOf, wordOf-lt, wordOf-ext, wordOf-below}
+use Rattle.words.proofs.Tests.{by-test, same-or-not, both, or-back, hit}
+use Rattle.words.proofs.Laws.{hasBit-or, hasBit-out, hasBit-power, hasBit-wordOf, same-word, wordOf-lt, wordOf-ext, wordOf-below}
 use Rattle.lists.specs.All.{bounded, tab}
 use Rattle.lists.proofs.Laws.{getD-tab, length-tab}
 use Rattle.lists.proofs.Bounded.{bounded-at, bounded-over, bounded-make}
@@ -99,6 +101,36 @@ pub with-self : (w i : ℕ) → i < 32 → withSelf w (suc i) ≡ Bits.bitOr w (
 unfolding withSelf
 with-self w i l = let e : suc i - 1 ≡ i = omega arith in hit (ltb 0 (suc i)) _ _ (lt-ltb 0 (suc i) (omega arith)) ∙ ap (withBit w) e
     ∙ hit (ltb i 32) _ _ (lt-ltb i 32 l)
+
+-- the nodes of a word, and the node of a number
+or-none : (t : Bool) → t ≡ (t || false)
+or-none true = refl
+or-none false = refl
+
+next-index : (i k : ℕ) → eqb i k ≡ eqb (i + 1) (suc k)
+next-index i k = same-or-not i k (λ e. eq-eqb i k e ∙ sym (eq-eqb (i + 1) (suc k) (omega arith)))
+    (λ e. ne-eqb i k e ∙ sym (ne-eqb (i + 1) (suc k) (λ f. e (omega arith))))
+
+module _ (p : ℕ → Bool) where
+  one-with : (k : ℕ) → withBit (wordOf 32 p) k ≡ wordOf 32 (λ i. p i || eqb (i + 1) (suc k))
+  one-with k = go (ltb k 32) refl
+    where
+      go : (t : Bool) → ltb k 32 ≡ t → cond t (Bits.bitOr (wordOf 32 p) (2 ^ k)) (wordOf 32 p) ≡ wordOf 32 (λ i. p i || eqb (i + 1) (suc k))
+      go true e =
+          let l : k < 32 = ltb-true k 32 e in
+          same-word 32 _ _ (or-lt 32 (wordOf 32 p) (2 ^ k) (wordOf-lt 32 p) (pow-lt l)) (wordOf-lt 32 _)
+          (λ i m. hasBit-or (wordOf 32 p) (2 ^ k) i ∙ ap₂ _||_ (hasBit-wordOf 32 p i m) (hasBit-power k i l m ∙ next-index i k)
+          ∙ sym (hasBit-wordOf 32 (λ i. p i || eqb (i + 1) (suc k)) i m))
+      go false e =
+          let l : 32 ≤ k = ltb-false k 32 e in
+          wordOf-ext 32 _ _ (λ i m. or-none (p i) ∙ ap (λ (t : Bool). p i || t) (sym (ne-eqb (i + 1) (suc k) (λ f. omega arith))))
+
+  pub self-with : (node : ℕ) → withSelf (wordOf 32 p) node ≡ wordOf 32 (λ i. p i || eqb (i + 1) node)
+  unfolding withSelf
+  self-with zero = wordOf-ext 32 _ _ (λ i m. or-none (p i) ∙ ap (λ (t : Bool). p i || t) (sym (ne-eqb (i + 1) 0 (λ f. omega arith))))
+  self-with (suc k) =
+      let e : suc k - 1 ≡ k = omega arith in
+      hit (ltb 0 (suc k)) _ _ (lt-ltb 0 (suc k) (omega arith)) ∙ ap (withBit (wordOf 32 p)) e ∙ one-with k
 
 -- a counter under a bound of 0 or 255
 pub left-below : (x : ℕ) (t : Bool) → x < cond t 0 255 → x ≡ cond t 0 x

@@ -1,86 +1,22 @@
-use mathlib.Core.Bool.{_||_}
-use mathlib.Core.Logic.{⊎-elim}
-use mathlib.Core.Path.{_≡_, refl, ap, _∙_}
-use Prim.Native.Nat.{_^_, ℕ, _≤_, _-_, _+_}
-use native.Mathlib.Omega.{arith}
-use lib.Bits
-use lib.Dec.{eqb, leb}
-use lib.ListN.{getD}
+use mathlib.Core.Path.{ap, _∙_}
+use Prim.Native.Nat.{ℕ}
 use borrow.Author.Needs.{needs}
-use borrow.Author.Tests.{lt-ltb}
-use Rattle.words.proofs.Tests.{hit}
-use Rattle.words.proofs.Laws.{word-more, word-same}
-use Rattle.words.specs.Bits.{wordOf}
-use Rattle.membership.specs.counters.Counters.{membersOf}
+use Rattle.membership.specs.counters.Counters.{withSelf, membersOf}
+use Rattle.membership.proofs.counters.Laws.{self-with}
 use Rattle.membership.proofs.counters.members_of.Statement.{statement}
 use Rattle.membership.proofs.counters.members_of.Tie as tie
 
-abbrev Inv-loop : tie.InvT-loop
-Inv-loop node heard counters w₀ i₀ w i = (i ≤ 32) × (w ≡ wordOf i (λ j. leb heard (getD counters j 0) || eqb (j + 1) node))
+heard-often-requires : tie.Need-heard-often-requires
+heard-often-requires c κs = search needs
 
-abbrev μ-loop : tie.MeasureT-loop
-μ-loop node heard counters w₀ i₀ w i = 32 - i
+with-self-requires : tie.Need-with-self-requires
+with-self-requires c κs = search needs
 
-loop-holds : tie.Need-loop-holds Inv-loop μ-loop
-unfolding wordOf
-loop-holds c = (omega arith, refl)
-
-array-read-often : tie.Need-array-read-often Inv-loop μ-loop
-array-read-often c = search needs
-
-cast-often : tie.Need-cast-often Inv-loop μ-loop
-cast-often c = search needs
-
-add-own : tie.Need-add-own Inv-loop μ-loop
-add-own c = omega arith
-
-cast-own : tie.Need-cast-own Inv-loop μ-loop
-cast-own c = omega arith
-
-cast-with : tie.Need-cast-with Inv-loop μ-loop
-cast-with c = omega arith
-
-with-requires : tie.Need-with-requires Inv-loop μ-loop
-with-requires c κs = search needs
-
-add-i : tie.Need-add-i Inv-loop μ-loop
-add-i c = omega arith
-
-loop-less : tie.Need-loop-less Inv-loop μ-loop
-loop-less c = omega arith
-
-loop-again : tie.Need-loop-again Inv-loop μ-loop
-loop-again c =
-    let i = c .before .before .loop .i in
-    let e = c .before .before .loop .inv .1 in (
-      omega arith,
-      ⊎-elim
-          (λ w. w .2 ∙ w .1 .ensures ∙ hit _ _ _ (lt-ltb i 32 (omega arith)) ∙ ap (λ (x : ℕ). Bits.bitOr x (2 ^ i)) e
-          ∙ word-more i _ (w .0 .taken))
-          (λ w. w .1 ∙ e ∙ word-same i _ (w .0 .left))
-          (c .if1 .came),
-    )
-
-returns : tie.Need-returns Inv-loop μ-loop
+returns : tie.Need-returns
 unfolding membersOf
-returns c = c .before .loop .inv .1 ∙ ap (λ (k : ℕ). wordOf k
-    (λ j. leb (c .before .before .args .heard) (getD (c .before .before .args .t1) j 0) || eqb (j + 1) (c .before .before .args .node)))
-    (omega arith)
+returns c =
+    let a = c .before .before .args in
+    c .with-self .ensures ∙ ap (λ (w : ℕ). withSelf w (a .node)) (c .before .heard-often .ensures) ∙ self-with _ (a .node)
 
 pub members-of-spec : {M : Type 1} → statement M
-members-of-spec =
-    tie.close
-    (tie.spec
-    Inv-loop
-    μ-loop
-    loop-holds
-    array-read-often
-    cast-often
-    add-own
-    cast-own
-    cast-with
-    with-requires
-    add-i
-    loop-less
-    loop-again
-    returns)
+members-of-spec = tie.close (tie.spec heard-often-requires with-self-requires returns)
