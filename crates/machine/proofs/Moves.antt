@@ -23,11 +23,16 @@ use Rattle.node.specs.Close.{closedNode, closeAnswer}
 use Rattle.node.specs.Distribution.{sentBy, takenNode}
 use Rattle.node.specs.End.{endedNode, endAnswer}
 use Rattle.node.specs.Negotiation.{heardNode}
+use Rattle.node.specs.Figures.{isWaiting}
+use Rattle.node.specs.declared.Setup.{Setup}
+use Rattle.membership.specs.requests.Requests.{only}
+use Rattle.node.proofs.Laws.{end-setup}
+use Rattle.node.proofs.Ended.{end-opened}
 use Rattle.node.specs.Core.{coreOf, bare, coreClosed, coreEnded, coreTaken, takeMoveBy}
-use Rattle.node.specs.InPlace.{behind, movedIn}
+use Rattle.node.specs.InPlace.{bothSize, behind, movedIn, droppedIn}
 use Rattle.node.proofs.Cores.{holding, close-moved, end-moved, take-moved, take-change, hear-moved}
 use Rattle.node.proofs.Made.{carries}
-use Rattle.node.proofs.Moved.{copied-held}
+use Rattle.node.proofs.Moved.{copied-held, ended-drops}
 use Rattle.node.specs.declared.Core.{Core}
 use Rattle.node.specs.declared.CoreStep.{CoreStep}
 use Rattle.node.specs.declared.Move.{Move}
@@ -57,6 +62,25 @@ stepped s i m u e f g p q h =
       h
           ∙ (λ x. movedIn (f x) (g x) (front x) (schedulesAt i)),
     )
+
+-- what an end makes of the schedules needs no core
+pub ended-moved : (n : Node) (c : Core) {v : Move} (b : List ℕ) {r : List ℕ} (at : ℕ) → v ≡ coreEnded (coreOf n) .change → at + bothSize ≤ length b
+    → r ≡ droppedIn v b at → r ≡ movedIn v c b at
+ended-moved n c {v} b {r} at e h f =
+    f ∙ ap (λ (m : Move). droppedIn m b at) e ∙ sym (ended-drops c b at h (coreOf n)) ∙ sym (ap (λ (m : Move). movedIn m c b at) e)
+
+number-there : (s : Store) (i : ℕ) → nodeIn s i .setup .node ≡ i + 1
+unfolding nodeIn
+number-there s i = refl
+
+-- who doesn't wait on after an end has just opened a round
+pub ended-known : (s : Store) (i : ℕ) {next : Core} → next ≡ coreOf (endedNode (nodeIn s i)) → isWaiting (next .phase) ≡ false
+    → next .round .known ≡ only (i + 1) (next .request)
+ended-known s i e w =
+    let n = nodeIn s i in
+    let o = end-opened n (sym (ap (λ (x : Core). isWaiting (x .phase)) e) ∙ w) in
+    ap (λ (x : Core). x .round .known) e ∙ o .known
+    ∙ ap₂ only (ap (λ (x : Setup). x .node) (end-setup n) ∙ number-there s i) (ap (λ (x : Core). x .request) (sym e))
 
 pub version-there : (s : Store) (i : ℕ) → getD (s .words) (nodeWordsAt i) 0 ≡ nodeIn s i .version
 unfolding nodeIn

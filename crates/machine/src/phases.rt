@@ -9,7 +9,9 @@ ghost use Rattle.site.specs.Steps.{closeMember, endMember};
 ghost use Rattle.machine.specs.Layout.{store, configAt, wordsSize, bytesSize};
 ghost use Rattle.machine.specs.Written.{closes, closeChange, ends, endChange, nodesIn, each, storeClosed, storeEnded};
 use crate::layout::BYTES;
+use crate::layout::NODE_BYTES;
 use crate::layout::PLACE;
+use crate::layout::SCHEDULE;
 use crate::layout::WORDS;
 use crate::places;
 use crate::read::config_at;
@@ -18,6 +20,7 @@ use crate::read::is_live;
 use crate::read::is_up;
 use crate::write::move_schedules;
 use crate::write::put_core;
+use crate::write::put_opened;
 use crate::write::put_phase;
 use node::Config;
 
@@ -42,7 +45,7 @@ fn close_one(words: &mut [u32], bytes: &mut [u8], i: usize, f: Config)
     move_schedules(bytes, i, change, c);
 }
 
-// The end for the node at an index, if it is up and not refused.
+// The end for the node at an index, if it is up and not refused. A node that doesn't wait on opens a round.
 fn end_one(words: &mut [u32], bytes: &mut [u8], i: usize, f: Config)
     requires { ⌜ (i < 32) × (wordsSize ≤ length (now words)) × (bytesSize ≤ length (now bytes)) × (f ≡ configAt (now words)) ⌝ }
     ensures { λ _. ⌜ now (words .exit) ≡ each ends endMember endChange i (store (now (words .entry)) (now (bytes .entry))) .words ⌝ }
@@ -59,8 +62,14 @@ fn end_one(words: &mut [u32], bytes: &mut [u8], i: usize, f: Config)
     let o = c.end();
     let next = o.core;
     let change = o.change;
-    put_core(words, bytes, i, next);
-    move_schedules(bytes, i, change, c);
+    let after = next.phase;
+    if node::is_waiting(after) {
+        put_core(words, bytes, i, next);
+        change.drop_at(bytes, NODE_BYTES * i + SCHEDULE);
+        return;
+    }
+    put_opened(words, bytes, i, next);
+    change.drop_at(bytes, NODE_BYTES * i + SCHEDULE);
 }
 
 // The close of each node that is live. No node's close changes the figures, so they are read once for all.

@@ -4,6 +4,7 @@ ghost use mathlib.Core.Bool.{true};
 ghost use Prim.Native.Nat.{_+_, _≤_, _<_};
 ghost use lib.ListN.{length, set};
 ghost use Rattle.lists.specs.Bytes.{written};
+ghost use Rattle.membership.specs.requests.Requests.{only};
 ghost use Rattle.node.specs.Core.{bare};
 ghost use Rattle.node.specs.InPlace.{movedIn};
 ghost use Rattle.machine.specs.Layout.{store, nodeWordsAt, nodeBytesAt, schedulesAt, nodeWords, storedFront, wordsSize, bytesSize};
@@ -121,6 +122,49 @@ pub(crate) fn put_core(words: &mut [u32], bytes: &mut [u8], i: usize, c: Core)
 {
     put_row(words, i, c);
     put_front(bytes, i, true, c);
+}
+
+// The requests of a round that has just opened at a place: the node at an index alone has one. By a store of its own: in a list by value
+// that two branches make, the compiler would handle the 32 entries one by one.
+fn put_own(out: &mut [u8], at: usize, i: usize, request: u8)
+    requires { ⌜ (i < 32) × (at + 32 ≤ length (now out)) ⌝ }
+    ensures { λ _. ⌜ now (out .exit) ≡ written (now (out .entry)) at (only (i + 1) request) ⌝ }
+{
+    put_short(out, at, membership::requests::no_requests());
+    out[at + i] = request;
+}
+
+// As `put_front`, of a core whose round has just opened, where its node is up.
+fn put_opened_front(bytes: &mut [u8], i: usize, c: Core)
+    requires { ⌜ (i < 32) × (bytesSize ≤ length (now bytes)) × (c .round .known ≡ only (i + 1) (c .request)) ⌝ }
+    ensures { λ _. ⌜ now (bytes .exit) ≡ written (now (bytes .entry)) (nodeBytesAt i) (storedFront (memberOf true (bare c))) ⌝ }
+{
+    let counters = c.counters;
+    let phase = c.phase;
+    let small = [
+        1,
+        c.demand,
+        c.request,
+        wire::phase_byte(phase),
+        c.updated as u8,
+    ];
+    let room = NODE_BYTES * i;
+    put_small(bytes, room, small);
+    put_own(bytes, room + KNOWN, i, c.request);
+    put_short(bytes, room + COUNTERS, counters);
+}
+
+// As `put_core`, of such a core.
+pub(crate) fn put_opened(words: &mut [u32], bytes: &mut [u8], i: usize, c: Core)
+    requires { ⌜ (i < 32) × (wordsSize ≤ length (now words)) × (bytesSize ≤ length (now bytes))
+        × (c .round .known ≡ only (i + 1) (c .request)) ⌝ }
+    ensures { λ _. ⌜ now (words .exit)
+        ≡ writtenFront (store (now (words .entry)) (now (bytes .entry))) i (memberOf true (bare c)) .words ⌝ }
+    ensures { λ _. ⌜ now (bytes .exit)
+        ≡ writtenFront (store (now (words .entry)) (now (bytes .entry))) i (memberOf true (bare c)) .bytes ⌝ }
+{
+    put_row(words, i, c);
+    put_opened_front(bytes, i, c);
 }
 
 // What a step makes of the schedules at an index, by the core before it.

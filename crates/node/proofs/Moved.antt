@@ -2,29 +2,36 @@
 -- byte changes.
 -- Assumes nothing.
 use mathlib.Core.Path.{_≡_, refl, sym, ap, _∙_}
-use mathlib.Core.Bool.{true}
+use mathlib.Core.Bool.{Bool, true, false}
 use mathlib.Core.List.{List}
-use Prim.Native.Nat.{ℕ, _+_, _≤_}
+use Prim.Native.Nat.{ℕ, _+_, _≤_, _<_}
 use native.Mathlib.Omega.{arith}
-use borrow.Author.Tests.{le-leb}
+use borrow.Author.Tests.{le-leb, lt-leb}
 use lib.ListN.{length, getD, drop, length-drop}
 use lib.Seq.{getD-take, getD-drop, length-take-le}
 use lib.Dec.{leb}
-use Rattle.words.proofs.Tests.{hit, never, by-test}
+use Rattle.words.proofs.Tests.{hit, skip, never, by-test}
 use Rattle.lists.specs.Bytes.{span, written}
 use Rattle.lists.proofs.Laws.{length-written}
 use Rattle.lists.proofs.Places.{before-written, in-written, Apart, apart-none, apart-written, apart-then}
-use Rattle.masks.specs.Bytes.{masksSize, noSlots}
+use Rattle.masks.specs.Bytes.{masksSize, noSlots, cleared}
 use Rattle.allotment.specs.Allotment.{free}
 use Rattle.allotment.specs.InPlace.{heldBytes, heldIn}
 use Rattle.allotment.specs.Model.{Schedule}
 use Rattle.allotment.proofs.Held.{length-held, free-held, next-held, held-alike}
-use Rattle.node.specs.Core.{pair, dealtSchedule, schedulesBy}
-use Rattle.node.specs.InPlace.{bothSize, behind, movedThere, movedIn, keeps}
+use Rattle.node.specs.Core.{pair, dealtSchedule, schedulesBy, bare, endMoveBy, coreTurned, coreWaited, coreEnded}
+use Rattle.node.specs.Figures.{isLast, isWaiting}
+use Rattle.node.specs.End.{expires}
+use Rattle.node.specs.InPlace.{bothSize, behind, movedThere, movedIn, keeps, droppedIn}
 use Rattle.node.specs.declared.Core.{Core}
+use Rattle.node.specs.declared.CoreStep.{CoreStep}
 use Rattle.node.specs.Model.{Schedules}
 use Rattle.node.specs.declared.Move.{Move}
 use Rattle.node.specs.declared.Move.the-variants.{Keep, Determine, Raise, DetermineAndRaise, Drop, Free}
+
+-- without room for masks nothing is cleared
+uncleared : (l : List ℕ) (at : ℕ) → length l < at + masksSize → cleared l at ≡ l
+uncleared l at h = skip _ _ _ _ (lt-leb (at + masksSize) (length l) h) refl
 
 -- the two schedules at a place
 abbrev pub heldPair : List ℕ → ℕ → Schedules
@@ -44,6 +51,38 @@ keep-moved Free c l at e = never (sym e)
 pub free-any : (c d : Core) (l : List ℕ) (at : ℕ) → movedIn Free c l at ≡ movedIn Free d l at
 unfolding movedIn
 free-any c d l at = refl
+
+-- nothing is dropped behind the bytes' end
+pub dropped-none : (m : Move) (l : List ℕ) (at : ℕ) → length l < at → droppedIn m l at ≡ l
+unfolding droppedIn
+dropped-none Keep l at h = refl
+dropped-none Determine l at h = refl
+dropped-none Raise l at h = refl
+dropped-none DetermineAndRaise l at h = refl
+dropped-none Drop l at h = uncleared l (behind at) (omega (arith, h))
+dropped-none Free l at h =
+    ap (λ (x : List ℕ). cleared x (behind at)) (uncleared l at (omega (arith, h))) ∙ uncleared l (behind at) (omega (arith, h))
+
+-- an end deals and raises none
+module _ (c : Core) (l : List ℕ) (at : ℕ) (h : at + bothSize ≤ length l) where
+  end-drops : (last expired : Bool) → movedIn (endMoveBy last expired) c l at ≡ droppedIn (endMoveBy last expired) l at
+  unfolding movedIn droppedIn
+  end-drops true true =
+      let e = hit (leb (at + masksSize) (length l)) (written l at noSlots) l
+      (le-leb (at + masksSize) (length l) (omega (arith, h))) in
+      let k = length-written l noSlots at (omega (arith, h)) in
+      hit _ _ _ (le-leb (at + bothSize) (length l) h)
+      ∙ sym (ap (λ (x : List ℕ). cleared x (behind at)) e
+      ∙ hit _ _ _ (le-leb (behind at + masksSize) (length (written l at noSlots)) (omega (arith, h, k))))
+  end-drops true false = hit _ _ _ (le-leb (at + bothSize) (length l) h)
+      ∙ sym (hit _ _ _ (le-leb (behind at + masksSize) (length l) (omega (arith, h))))
+  end-drops false expired = by-test (λ (x : List ℕ). x ≡ l) (leb (at + bothSize) (length l)) l l (λ f. refl) (λ f. refl)
+
+  pub ended-drops : (d : Core) → movedIn (coreEnded d .change) c l at ≡ droppedIn (coreEnded d .change) l at
+  unfolding coreTurned coreWaited
+  ended-drops d = by-test (λ (o : CoreStep). movedIn (o .change) c l at ≡ droppedIn (o .change) l at) (isWaiting (d .phase))
+      (coreWaited d) (coreTurned d) (λ e. end-drops (isLast (d .setup .config) (d .place)) true)
+      (λ e. end-drops (isLast (d .setup .config) (d .place)) (expires (bare d)))
 
 -- as many bytes as masks have, written at either place
 module _ (l b : List ℕ) (at : ℕ) (h : at + bothSize ≤ length l) (e : length b ≡ masksSize) where

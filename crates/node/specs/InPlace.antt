@@ -6,7 +6,7 @@ use Prim.Native.Nat.{ℕ, _+_}
 use lib.Dec.{leb}
 use lib.ListN.{length}
 use Rattle.lists.specs.Bytes.{span, written}
-use Rattle.masks.specs.Bytes.{masksSize, noSlots}
+use Rattle.masks.specs.Bytes.{masksSize, noSlots, cleared}
 use Rattle.allotment.specs.InPlace.{heldBytes, heldIn}
 use Rattle.node.specs.Core.{dealtSchedule}
 use Rattle.node.specs.declared.Core.{Core}
@@ -45,3 +45,12 @@ keeps Raise = false
 keeps DetermineAndRaise = false
 keeps Drop = false
 keeps Free = false
+
+-- what a move makes of both where it deals and raises none, as an end's: no core is asked; any other leaves them here
+unfoldable pub droppedIn : Move → List ℕ → ℕ → List ℕ
+droppedIn Keep l at = l
+droppedIn Determine l at = l
+droppedIn Raise l at = l
+droppedIn DetermineAndRaise l at = l
+droppedIn Drop l at = cleared l (behind at)
+droppedIn Free l at = cleared (cleared l at) (behind at)

@@ -3,7 +3,7 @@ ghost use mathlib.Core.Path.{_≡_};
 ghost use Prim.Native.Nat.{_+_, _≤_};
 ghost use lib.ListN.{length};
 ghost use Rattle.masks.specs.Bytes.{masksSize};
-ghost use Rattle.node.specs.InPlace.{bothSize, dealtIn, movedThere, movedIn, keeps};
+ghost use Rattle.node.specs.InPlace.{bothSize, dealtIn, movedThere, movedIn, keeps, droppedIn};
 use crate::Core;
 use crate::Move;
 
@@ -24,6 +24,27 @@ impl Move {
             Move::DetermineAndRaise => false,
             Move::Drop => false,
             Move::Free => false,
+        }
+    }
+
+    // What it makes of both schedules, where it deals and raises none, as an end's does: no core is asked. Any other leaves them here.
+    pub fn drop_at(self, s: &mut [u8], at: usize)
+        ensures { λ _. ⌜ now (s .exit) ≡ droppedIn self (now (s .entry)) at ⌝ }
+    {
+        if s.len() < at {
+            return;
+        }
+        let next = at + ONE;
+        match self {
+            Move::Keep => {}
+            Move::Determine => {}
+            Move::Raise => {}
+            Move::DetermineAndRaise => {}
+            Move::Drop => masks::clear(s, next),
+            Move::Free => {
+                masks::clear(s, at);
+                masks::clear(s, next);
+            }
         }
     }
 }
