@@ -64,8 +64,8 @@ stepped s i m u e f g p q h =
     )
 
 -- what an end makes of the schedules needs no core
-pub ended-moved : (n : Node) (c : Core) {v : Move} (b : List ℕ) {r : List ℕ} (at : ℕ) → v ≡ coreEnded (coreOf n) .change → at + bothSize ≤ length b
-    → r ≡ droppedIn v b at → r ≡ movedIn v c b at
+pub ended-moved : (n : Node) (c : Core) {v : Move} (b : List ℕ) {r : List ℕ} (at : ℕ) → v ≡ coreEnded (coreOf n) .change
+    → at + bothSize ≤ length b → r ≡ droppedIn v b at → r ≡ movedIn v c b at
 ended-moved n c {v} b {r} at e h f =
     f ∙ ap (λ (m : Move). droppedIn m b at) e ∙ sym (ended-drops c b at h (coreOf n)) ∙ sym (ap (λ (m : Move). movedIn m c b at) e)
 

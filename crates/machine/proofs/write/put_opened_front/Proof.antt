@@ -52,7 +52,8 @@ returns c =
     ∙ ap (λ (x : ℕ). written (a .bytes .now) (nodeBytesAt (a .i))
     (1 ∷ a .c .demand ∷ a .c .request ∷ x ∷ boolByte (a .c .updated) ∷ []))
     (c .before .before .before .before .before .before .before .before .before .before .before .before .before .phase-byte .ensures))
-    (c .before .before .before .before .before .before .put-own .ensures) (c .before .before .put-short .ensures) refl (omega arith) (omega arith)
+    (c .before .before .before .before .before .before .put-own .ensures) (c .before .before .put-short .ensures) refl
+    (omega arith) (omega arith)
     ∙ ap (λ (x : List ℕ). written (a .bytes .now) (nodeBytesAt (a .i))
     ((1 ∷ a .c .demand ∷ a .c .request ∷ phaseByte (a .c .phase) ∷ boolByte (a .c .updated) ∷ []) ++ (x ++ a .c .counters)))
     (sym (d .pre .2))
