@@ -10,13 +10,11 @@ use borrow.Author.Tests.{not-true, not-false}
 use Rattle.words.proofs.Tests.{both}
 use Rattle.node.specs.Answers.{isDone}
 use Rattle.node.specs.Core.{coreOf, bare, coreEnded}
-use Rattle.node.specs.Figures.{isWaiting}
 use Rattle.node.specs.InPlace.{bothSize, droppedIn}
 use Rattle.node.specs.declared.Move.{Move}
 use Rattle.node.specs.End.{mayEnd, endAnswer, endedNode}
 use Rattle.node.proofs.Bare.{ends-phase}
 use Rattle.node.specs.declared.Core.{Core}
-use Rattle.node.specs.declared.CoreStep.{CoreStep}
 use Rattle.site.specs.Model.{Member}
 use Rattle.site.specs.Steps.{endMember}
 use Rattle.machine.specs.Layout.{

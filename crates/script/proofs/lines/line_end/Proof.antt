@@ -4,7 +4,7 @@ use Rattle.text.specs.Read.{before}
 use Rattle.text.proofs.Pieces.{before-here, before-more, behind-is}
 use Rattle.script.proofs.lines.Lines.{none-there}
 use borrow.Author.Needs.{needs}
-use mathlib.Core.Path.{_≡_, ap, _∙_}
+use mathlib.Core.Path.{_≡_, ap}
 use Prim.Native.Nat.{ℕ, _≤_, _<_, _-_, _+_}
 use native.Mathlib.Omega.{arith}
 use Rattle.script.proofs.lines.line_end.Statement.{statement}

@@ -1,7 +1,6 @@
 use Rattle.script.proofs.lines.Lines.{line-none, line-open, line-ended}
 use mathlib.Core.Path.{sym}
 use native.Mathlib.Omega.{arith}
-use borrow.Author.Needs.{needs}
 use Rattle.script.proofs.lines.next_line.Statement.{statement}
 use Rattle.script.proofs.lines.next_line.Tie as tie
 
