@@ -63,19 +63,25 @@ dropped-none Drop l at h = uncleared l (behind at) (omega (arith, h))
 dropped-none Free l at h =
     ap (λ (x : List ℕ). cleared x (behind at)) (uncleared l at (omega (arith, h))) ∙ uncleared l (behind at) (omega (arith, h))
 
--- an end deals and raises none
+-- with room for both, what is dropped is moved there; and an end deals and raises none
 module _ (c : Core) (l : List ℕ) (at : ℕ) (h : at + bothSize ≤ length l) where
-  end-drops : (last expired : Bool) → movedIn (endMoveBy last expired) c l at ≡ droppedIn (endMoveBy last expired) l at
-  unfolding movedIn droppedIn
-  end-drops true true =
+  pub drop-there : droppedIn Drop l at ≡ movedThere Drop c l at
+  unfolding droppedIn
+  drop-there = hit _ _ _ (le-leb (behind at + masksSize) (length l) (omega (arith, h)))
+
+  pub free-there : droppedIn Free l at ≡ movedThere Free c l at
+  unfolding droppedIn
+  free-there =
       let e = hit (leb (at + masksSize) (length l)) (written l at noSlots) l
       (le-leb (at + masksSize) (length l) (omega (arith, h))) in
       let k = length-written l noSlots at (omega (arith, h)) in
-      hit _ _ _ (le-leb (at + bothSize) (length l) h)
-      ∙ sym (ap (λ (x : List ℕ). cleared x (behind at)) e
-      ∙ hit _ _ _ (le-leb (behind at + masksSize) (length (written l at noSlots)) (omega (arith, h, k))))
-  end-drops true false = hit _ _ _ (le-leb (at + bothSize) (length l) h)
-      ∙ sym (hit _ _ _ (le-leb (behind at + masksSize) (length l) (omega (arith, h))))
+      ap (λ (x : List ℕ). cleared x (behind at)) e
+      ∙ hit _ _ _ (le-leb (behind at + masksSize) (length (written l at noSlots)) (omega (arith, h, k)))
+
+  end-drops : (last expired : Bool) → movedIn (endMoveBy last expired) c l at ≡ droppedIn (endMoveBy last expired) l at
+  unfolding movedIn droppedIn
+  end-drops true true = hit _ _ _ (le-leb (at + bothSize) (length l) h) ∙ sym free-there
+  end-drops true false = hit _ _ _ (le-leb (at + bothSize) (length l) h) ∙ sym drop-there
   end-drops false expired = by-test (λ (x : List ℕ). x ≡ l) (leb (at + bothSize) (length l)) l l (λ f. refl) (λ f. refl)
 
   pub ended-drops : (d : Core) → movedIn (coreEnded d .change) c l at ≡ droppedIn (coreEnded d .change) l at

@@ -78,11 +78,8 @@ impl Core {
                 self.deal_at(s, at, at);
                 masks::clear(s, next);
             }
-            Move::Drop => masks::clear(s, next),
-            Move::Free => {
-                masks::clear(s, at);
-                masks::clear(s, next);
-            }
+            Move::Drop => change.drop_at(s, at),
+            Move::Free => change.drop_at(s, at),
         }
     }
 

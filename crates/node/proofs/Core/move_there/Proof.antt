@@ -10,10 +10,11 @@ use Rattle.words.proofs.Tests.{hit}
 use Rattle.lists.specs.Bytes.{span, written}
 use Rattle.masks.specs.Bytes.{masksSize, noSlots, cleared, copied}
 use Rattle.masks.proofs.Moves.{can-copy}
-use Rattle.node.specs.InPlace.{bothSize, behind, movedThere}
+use Rattle.node.specs.InPlace.{bothSize, behind, movedThere, droppedIn}
 use Rattle.node.specs.declared.Core.{Core}
 use Rattle.node.specs.declared.Move.{Move}
 use Rattle.node.specs.declared.Move.the-variants.{Keep, Determine, Raise, DetermineAndRaise, Drop, Free}
+use Rattle.node.proofs.Moved.{drop-there, free-there}
 use Rattle.node.proofs.Core.move_there.Statement.{statement}
 use Rattle.node.proofs.Core.move_there.Tie as tie
 
@@ -67,17 +68,14 @@ clear-requires-2 c κs = search needs
 enum-told-5 : tie.Need-enum-told-5
 enum-told-5 c = search needs
 
-clear-requires-3 : tie.Need-clear-requires-3
-clear-requires-3 c κs = search needs
+drop-at-requires : tie.Need-drop-at-requires
+drop-at-requires c κs = search needs
 
 enum-told-6 : tie.Need-enum-told-6
 enum-told-6 c = search needs
 
-clear-requires-4 : tie.Need-clear-requires-4
-clear-requires-4 c κs = search needs
-
-clear-requires-5 : tie.Need-clear-requires-5
-clear-requires-5 c κs = search needs
+drop-at-requires-2 : tie.Need-drop-at-requires-2
+drop-at-requires-2 c κs = search needs
 
 returns : tie.Need-returns
 returns c =
@@ -124,20 +122,22 @@ returns-5 : tie.Need-returns-5
 returns-5 c =
     let d = c .before .before .before .before .before .before .before in
     let l = d .args .s .now in
-    told Drop (d .args .self) l (d .args .at) (c .before .before .before .before .enum-told5 .given .1)
-    (clears l (behind (d .args .at)) (omega (arith, d .pre)) (c .before .before .clear3 .ensures))
+    let at = d .args .at in
+    let e = c .before .before .before .before .enum-told5 .given .1 in
+    told Drop (d .args .self) l at e
+    (c .before .before .drop-at .ensures ∙ ap (λ (m : Move). droppedIn m l at) e ∙ drop-there (d .args .self) l at (d .pre))
 
 same-length-5 : tie.Need-same-length-5
 same-length-5 c = search needs
 
 returns-6 : tie.Need-returns-6
 returns-6 c =
-    let d = c .before .before .before .before .before .before .before .before .before .before .before in
+    let d = c .before .before .before .before .before .before .before in
     let l = d .args .s .now in
-    told Free (d .args .self) l (d .args .at) (c .before .before .before .before .before .before .before .before .enum-told6 .given .1)
-    (then-clears l (d .args .at) (d .pre) (c .before .before .before .before .before .before .clear4 .kept .0)
-    (clears l (d .args .at) (omega (arith, d .pre)) (c .before .before .before .before .before .before .clear4 .ensures))
-    (c .before .before .clear5 .ensures))
+    let at = d .args .at in
+    let e = c .before .before .before .before .enum-told6 .given .1 in
+    told Free (d .args .self) l at e
+    (c .before .before .drop-at2 .ensures ∙ ap (λ (m : Move). droppedIn m l at) e ∙ free-there (d .args .self) l at (d .pre))
 
 pub move-there-spec : {M : Type 1} → statement M
 move-there-spec =
@@ -154,10 +154,9 @@ move-there-spec =
     deal-at-requires-2
     clear-requires-2
     enum-told-5
-    clear-requires-3
+    drop-at-requires
     enum-told-6
-    clear-requires-4
-    clear-requires-5
+    drop-at-requires-2
     returns
     same-length
     returns-2
