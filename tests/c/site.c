@@ -2,7 +2,7 @@
  * It reads a script from standard input and prints the listing, so that it can be compared with what `replay` prints.
  * `site areas` prints behind it a line for each box that is up: "area NODE BYTES", the node area in hexadecimal.
  * What a host of several boxes must know itself is here: the lines, the phase, who is up, and the packets on the air.
- * It is the executable face of the theorem on the boxes' bytes (docs/field.md): before each call it tests what crates/boxes/specs/field/Field.antt names under
+ * It is the executable face of the theorem on the boxes' bytes (docs/field.md): before each call it tests what crates/boxes/specs/fleet/Fleet.antt names under
  * "The answers", and nothing else. */
 #include <string.h>
 

@@ -25,9 +25,9 @@ use Rattle.node.specs.declared.Config.{Config}
 use Rattle.site.specs.declared.Table.{Table}
 use Rattle.site.specs.Model.{Site}
 use Rattle.site.proofs.Accepted.{Loads, load-accepted}
-use Rattle.traces.specs.Past.{Determination, noPast}
-use Rattle.traces.proofs.Sets.{in-none}
-use Rattle.traces.proofs.Members.{member, down}
+use Rattle.histories.specs.Past.{Determination, noPast}
+use Rattle.histories.proofs.Sets.{in-none}
+use Rattle.histories.proofs.Members.{member, down}
 use Rattle.agreement.proofs.Members.{Each, each-none}
 use Rattle.agreement.proofs.Stages.{Stage, idle, IsFin, Compat, Fine, Lives, Glob}
 use Rattle.agreement.proofs.Invariant.{LogOk, Matches, Inv}

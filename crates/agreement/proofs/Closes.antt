@@ -21,11 +21,11 @@ use Rattle.node.specs.declared.Config.{Config}
 use Rattle.site.specs.Model.{Member}
 use Rattle.site.specs.Model.{Site}
 use Rattle.site.proofs.Steps.{closed-live, closed-other}
-use Rattle.traces.proofs.Tests.{either}
-use Rattle.traces.proofs.Sets.{In, in?}
-use Rattle.traces.proofs.Views.{viewOf, Known}
-use Rattle.traces.proofs.Starts.{startOf}
-use Rattle.traces.proofs.Members.{member}
+use Rattle.histories.proofs.Tests.{either}
+use Rattle.histories.proofs.Sets.{In, in?}
+use Rattle.histories.proofs.Views.{viewOf, Known}
+use Rattle.histories.proofs.Starts.{startOf}
+use Rattle.histories.proofs.Members.{member}
 use Rattle.agreement.proofs.Quorum.{Complete, complete-Q, one-Q, is-complete}
 use Rattle.agreement.proofs.Members.{Each, each-none, each-at, Miss}
 use Rattle.agreement.proofs.Stages.{Stage, idle, rep, dec, fin, IsFin, Tied, coreOf, Lives, lives-at, Closing, Cond, Sends, Rep}

@@ -27,13 +27,13 @@ use Rattle.node.specs.declared.Config.{Config}
 use Rattle.site.specs.Model.{Member}
 use Rattle.site.specs.Model.{Site}
 use Rattle.site.proofs.Steps.{member-ended, ended-up, ended-down}
-use Rattle.traces.specs.Past.{Past, pastAtEnd}
-use Rattle.traces.proofs.Tests.{either}
-use Rattle.traces.proofs.Sets.{In, apart, in-self}
-use Rattle.traces.proofs.Members.{member, is-live, asleep, down}
-use Rattle.traces.proofs.Steady.{Steady, rests, steady-number, steady-last, steady-index, steady-small, steady-met}
-use Rattle.traces.proofs.Sound.{Sits, Sound}
-use Rattle.traces.proofs.Logs.{Upto, end-before}
+use Rattle.histories.specs.Past.{Past, pastAtEnd}
+use Rattle.histories.proofs.Tests.{either}
+use Rattle.histories.proofs.Sets.{In, apart, in-self}
+use Rattle.histories.proofs.Members.{member, is-live, asleep, down}
+use Rattle.histories.proofs.Steady.{Steady, rests, steady-number, steady-last, steady-index, steady-small, steady-met}
+use Rattle.histories.proofs.Sound.{Sits, Sound}
+use Rattle.histories.proofs.Logs.{Upto, end-before}
 use Rattle.agreement.proofs.Quorum.{IsQ}
 use Rattle.agreement.proofs.Members.{Each, each-none, each-at}
 use Rattle.agreement.proofs.Stages.{Tied, Stage, idle, rep, dec, fin, IsFin, Compat, coreOf, Fine, Lives, lives-at, Cond, Fin, GFin}

@@ -20,12 +20,12 @@ use Rattle.site.specs.Steps.{endedSite}
 use Rattle.node.specs.declared.Config.{Config}
 use Rattle.site.specs.Model.{Site}
 use Rattle.site.proofs.Steps.{member-ended}
-use Rattle.traces.specs.Past.{Determination, Past}
-use Rattle.traces.proofs.Tests.{either}
-use Rattle.traces.proofs.Sets.{in?}
-use Rattle.traces.proofs.Members.{member}
-use Rattle.traces.proofs.Steady.{Steady, steady-last}
-use Rattle.traces.proofs.Sound.{Sound}
+use Rattle.histories.specs.Past.{Determination, Past}
+use Rattle.histories.proofs.Tests.{either}
+use Rattle.histories.proofs.Sets.{in?}
+use Rattle.histories.proofs.Members.{member}
+use Rattle.histories.proofs.Steady.{Steady, steady-last}
+use Rattle.histories.proofs.Sound.{Sound}
 use Rattle.agreement.specs.Succession.{NoClash, Heir}
 use Rattle.agreement.proofs.Members.{each-at}
 use Rattle.agreement.proofs.Stages.{Compat, Stage, idle, rep, dec, fin, coreOf, Cond, Glob}

@@ -9,10 +9,10 @@ use Rattle.allotment.specs.Allotment.{free}
 use Rattle.allotment.specs.Model.{Schedule}
 use Rattle.node.specs.Figures.{isLast}
 use Rattle.site.specs.Model.{Site}
-use Rattle.traces.specs.Past.{Determination, Past}
-use Rattle.traces.proofs.Sets.{In}
-use Rattle.traces.proofs.Members.{member}
-use Rattle.traces.proofs.Starts.{Flagged}
+use Rattle.histories.specs.Past.{Determination, Past}
+use Rattle.histories.proofs.Sets.{In}
+use Rattle.histories.proofs.Members.{member}
+use Rattle.histories.proofs.Starts.{Flagged}
 use Rattle.agreement.specs.Demand.{Justified, SameDetermination}
 use Rattle.agreement.proofs.Members.{Each}
 use Rattle.agreement.proofs.Stages.{Stage, idle, rep, dec, fin, IsFin, Compat, Lives, Glob, Base}

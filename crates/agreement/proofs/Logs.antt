@@ -19,13 +19,13 @@ use Rattle.node.specs.declared.Config.{Config}
 use Rattle.site.specs.Model.{Member}
 use Rattle.site.specs.Model.{Site}
 use Rattle.site.proofs.Steps.{member-closed}
-use Rattle.traces.specs.Past.{Determination, Past, determination, determinedAt, pastAtClose}
-use Rattle.traces.proofs.Tests.{either}
-use Rattle.traces.proofs.Sets.{In, in-number}
-use Rattle.traces.proofs.Members.{member, live-up, awake}
-use Rattle.traces.proofs.Steady.{steady-setup, steady-last}
-use Rattle.traces.proofs.Logs.{new-of}
-use Rattle.traces.proofs.Always.{Kept}
+use Rattle.histories.specs.Past.{Determination, Past, determination, determinedAt, pastAtClose}
+use Rattle.histories.proofs.Tests.{either}
+use Rattle.histories.proofs.Sets.{In, in-number}
+use Rattle.histories.proofs.Members.{member, live-up, awake}
+use Rattle.histories.proofs.Steady.{steady-setup, steady-last}
+use Rattle.histories.proofs.Logs.{new-of}
+use Rattle.histories.proofs.Always.{Kept}
 use Rattle.agreement.specs.Demand.{Justified, SameDetermination}
 use Rattle.agreement.proofs.Members.{each-at, Miss}
 use Rattle.agreement.proofs.Stages.{Stage, idle, rep, dec, fin, IsFin, Closing, Glob, Base}

@@ -22,12 +22,12 @@ use Rattle.node.proofs.Tested.{merges-in}
 use Rattle.site.specs.Members.{nobody, memberAt, isLive, withNode, put}
 use Rattle.site.specs.Model.{Member}
 use Rattle.site.specs.Model.{Site}
-use Rattle.traces.specs.Past.{Past}
-use Rattle.traces.proofs.Tests.{either}
-use Rattle.traces.proofs.Sets.{In, in-number, in-or}
-use Rattle.traces.proofs.Views.{viewIn, in-known, Good}
-use Rattle.traces.proofs.Starts.{startOf}
-use Rattle.traces.proofs.Members.{live-same}
+use Rattle.histories.specs.Past.{Past}
+use Rattle.histories.proofs.Tests.{either}
+use Rattle.histories.proofs.Sets.{In, in-number, in-or}
+use Rattle.histories.proofs.Views.{viewIn, in-known, Good}
+use Rattle.histories.proofs.Starts.{startOf}
+use Rattle.histories.proofs.Members.{live-same}
 use Rattle.agreement.proofs.Members.{Each, each-none}
 use Rattle.agreement.proofs.Stages.{Stage, idle, rep, dec, fin, Tied, Core, coreOf, Lives, lives-at, Cond}
 use Rattle.agreement.proofs.Cores.{want-core, withMet, hear-core, take-core}

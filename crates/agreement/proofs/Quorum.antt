@@ -12,8 +12,8 @@ use Rattle.node.specs.Model.{Node}
 use Rattle.node.proofs.Majority.{complete-informed, complete-most}
 use Rattle.site.specs.Members.{setupOf}
 use Rattle.node.specs.declared.Config.{Config}
-use Rattle.traces.proofs.Sets.{In, meet, same-set}
-use Rattle.traces.proofs.Views.{View, viewOf, Known, Start, Closed, Good, filled}
+use Rattle.histories.proofs.Sets.{In, meet, same-set}
+use Rattle.histories.proofs.Views.{View, viewOf, Known, Start, Closed, Good, filled}
 
 -- a set that decides: closed, more than half, and no closed set parts it
 pub record IsQ (N : ℕ) (M : ℕ → ℕ) (Q : ℕ) : Type 0 where

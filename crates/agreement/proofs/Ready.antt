@@ -20,12 +20,12 @@ use Rattle.site.specs.Members.{nobody}
 use Rattle.node.specs.declared.Config.{Config}
 use Rattle.site.specs.Model.{Member}
 use Rattle.site.specs.Model.{Site}
-use Rattle.traces.specs.Past.{Determination}
-use Rattle.traces.proofs.Tests.{either}
-use Rattle.traces.proofs.Sets.{In}
-use Rattle.traces.proofs.Views.{View, viewOf, Good}
-use Rattle.traces.proofs.Starts.{startOf}
-use Rattle.traces.proofs.Members.{member}
+use Rattle.histories.specs.Past.{Determination}
+use Rattle.histories.proofs.Tests.{either}
+use Rattle.histories.proofs.Sets.{In}
+use Rattle.histories.proofs.Views.{View, viewOf, Good}
+use Rattle.histories.proofs.Starts.{startOf}
+use Rattle.histories.proofs.Members.{member}
 use Rattle.agreement.proofs.Quorum.{Complete, complete-Q, one-Q, is-complete}
 use Rattle.agreement.proofs.Members.{Each, Miss, scan}
 use Rattle.agreement.proofs.Stages.{Stage, idle, rep, dec, fin, IsFin, Core, coreOf, Closing, Cond, Idle, Rep, Decided, GRep, GDec}

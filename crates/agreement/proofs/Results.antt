@@ -12,7 +12,7 @@ use Rattle.allotment.specs.Model.{Schedule}
 use Rattle.node.specs.Model.{Node}
 use Rattle.site.specs.Members.{memberAt, isLive}
 use Rattle.site.specs.Model.{Site}
-use Rattle.traces.specs.Past.{Determination, Past}
+use Rattle.histories.specs.Past.{Determination, Past}
 use Rattle.agreement.specs.Demand.{Agree, Agreement, Justified, SameDetermination}
 use Rattle.agreement.proofs.Stages.{Compat, Fine}
 use Rattle.agreement.proofs.Invariant.{Inv}

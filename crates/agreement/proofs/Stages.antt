@@ -13,10 +13,10 @@ use Rattle.node.specs.Model.{Node}
 use Rattle.site.specs.Members.{setupOf, isLive}
 use Rattle.node.specs.declared.Config.{Config}
 use Rattle.site.specs.Model.{Site}
-use Rattle.traces.proofs.Sets.{In}
-use Rattle.traces.proofs.Views.{viewOf, Closed, Good}
-use Rattle.traces.proofs.Starts.{startOf}
-use Rattle.traces.proofs.Members.{member}
+use Rattle.histories.proofs.Sets.{In}
+use Rattle.histories.proofs.Views.{viewOf, Closed, Good}
+use Rattle.histories.proofs.Starts.{startOf}
+use Rattle.histories.proofs.Members.{member}
 use Rattle.agreement.proofs.Quorum.{IsQ}
 
 -- no slot is given to different nodes
@@ -153,7 +153,7 @@ lives-at {M} {w} {sch} {g} {neg} {i} {n} k y f e p C S = record {
 abbrev pub Base : (ℕ → ℕ) → ℕ → (ℕ → Schedule) → Site → Stage → Type 0
 Base M w sch b g = (i : ℕ) → isLive (member b i) ≡ true → Cond M w sch g i (coreOf (member b i .node))
 
--- a live node as its round closes: its site may not split; what every site keeps of it (crates/traces), and the stage
+-- a live node as its round closes: its site may not split; what every site keeps of it (crates/histories), and the stage
 pub record Closing (f : Config) (here : ℕ) (M : ℕ → ℕ) (w : ℕ) (sch : ℕ → Schedule) (g : Stage) (b : Site) (i : ℕ) (n : Node) : Type 0
   where
     pub whole : n .setup .config .split ≡ 0

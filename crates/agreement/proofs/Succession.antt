@@ -19,12 +19,12 @@ use Rattle.site.specs.Model.{Site}
 use Rattle.site.specs.declared.Event.the-variants.{Close, End}
 use Rattle.site.proofs.Accepted.{answered, close-accepted, end-accepted}
 use Rattle.site.proofs.Steps.{accepted-is, member-closed, closed-live, closed-other}
-use Rattle.traces.specs.Past.{Determination}
-use Rattle.traces.specs.Reached.{reached, pastOf, liveAfter, nodeAfter, EndsEpoch}
-use Rattle.traces.proofs.Tests.{either}
-use Rattle.traces.proofs.Sound.{Sound, end-sound}
-use Rattle.traces.proofs.Members.{member, live-up, awake}
-use Rattle.traces.proofs.Always as traces
+use Rattle.histories.specs.Past.{Determination}
+use Rattle.histories.specs.Reached.{reached, pastOf, liveAfter, nodeAfter, EndsEpoch}
+use Rattle.histories.proofs.Tests.{either}
+use Rattle.histories.proofs.Sound.{Sound, end-sound}
+use Rattle.histories.proofs.Members.{member, live-up, awake}
+use Rattle.histories.proofs.Always as traces
 use Rattle.agreement.specs.Succession.{Heir, FirstHeir, Succeeds}
 use Rattle.agreement.proofs.Heirs.{heirs}
 use Rattle.agreement.proofs.Theorem.{always}

@@ -23,13 +23,13 @@ use Rattle.site.specs.declared.Event.{Event}
 use Rattle.site.specs.declared.Event.the-variants.{Send, Hear, Close, Take, End, Want, Crash, Restart}
 use Rattle.site.proofs.Accepted.{answered, hear-accepted, close-accepted, take-accepted, end-accepted}
 use Rattle.site.proofs.Steps.{hear-as}
-use Rattle.traces.specs.Past.{Past, recorded, pastAfter, trace}
-use Rattle.traces.specs.Reached.{begin, reached, pastOf}
-use Rattle.traces.proofs.Members.{live-up, asleep, down}
-use Rattle.traces.proofs.Steady.{steady-number}
-use Rattle.traces.proofs.Sound.{noPacket, hear-is}
-use Rattle.traces.proofs.Always as traces
-use Rattle.traces.proofs.Always.{Kept}
+use Rattle.histories.specs.Past.{Past, recorded, pastAfter, trace}
+use Rattle.histories.specs.Reached.{begin, reached, pastOf}
+use Rattle.histories.proofs.Members.{live-up, asleep, down}
+use Rattle.histories.proofs.Steady.{steady-number}
+use Rattle.histories.proofs.Sound.{noPacket, hear-is}
+use Rattle.histories.proofs.Always as traces
+use Rattle.histories.proofs.Always.{Kept}
 use Rattle.agreement.specs.Demand.{Justified, Holds}
 use Rattle.agreement.proofs.Invariant.{Inv}
 use Rattle.agreement.proofs.Moves.{keep-none, keep-want, keep-hear, keep-take}

@@ -20,8 +20,8 @@ use Rattle.node.specs.declared.Config.{Config}
 use Rattle.site.specs.declared.Table.{Table}
 use Rattle.site.specs.Model.{Site}
 use Rattle.site.specs.declared.Event.{Event}
-use Rattle.traces.specs.Past.{Determination, trace, noPast}
-use Rattle.traces.specs.Reached.{begin}
+use Rattle.histories.specs.Past.{Determination, trace, noPast}
+use Rattle.histories.specs.Reached.{begin}
 
 -- the owner of the slot at index k by a node's schedule
 abbrev pub owner : Node → ℕ → ℕ

@@ -17,8 +17,8 @@ use Rattle.node.specs.declared.Config.{Config}
 use Rattle.site.specs.declared.Table.{Table}
 use Rattle.site.specs.declared.Event.{Event}
 use Rattle.site.specs.declared.Event.the-variants.{Close, End}
-use Rattle.traces.specs.Past.{Determination}
-use Rattle.traces.specs.Reached.{reached, pastOf, Accepted, liveAfter, nodeAfter, EndsEpoch}
+use Rattle.histories.specs.Past.{Determination}
+use Rattle.histories.specs.Reached.{reached, pastOf, Accepted, liveAfter, nodeAfter, EndsEpoch}
 
 -- two schedules give no slot to different nodes
 pub record NoClash (s u : Schedule) : Type 0 where

@@ -24,14 +24,14 @@ use Rattle.node.specs.declared.Config.{Config}
 use Rattle.site.specs.declared.Table.{Table}
 use Rattle.site.specs.declared.Event.{Event}
 use Rattle.site.specs.declared.Event.the-variants.{Send, Hear, Close, Take, End, Want, Crash, Restart}
-use Rattle.boxes.specs.field.Field.{Box, Field, Act, reading, boxPhase, live, change, crashed, fieldCrash, fieldRestart, fieldAnswer}
-use Rattle.boxes.specs.field.Field.{nextField}
-use Rattle.boxes.specs.field.Field.{fieldAfter, fieldRun, begunField}
-use Rattle.boxes.specs.field.Past.{BoxDetermination, BoxPast, boxDetermination, boxDeterminedBy, boxesDetermined, atClose, boxPastAtEnd}
-use Rattle.boxes.specs.field.Past.{boxNoted}
-use Rattle.boxes.specs.field.Past.{boxPastAfter, boxTrace, noBoxPast}
-use Rattle.boxes.specs.field.Claim.{Begins, BoxHeld, BoxJustified, SameBoxDetermination}
-use Rattle.boxes.proofs.field.Theorem.{field-holds}
+use Rattle.boxes.specs.fleet.Fleet.{Box, Fleet, Act, reading, boxPhase, live, change, crashed, fleetCrash, fleetRestart, fleetAnswer}
+use Rattle.boxes.specs.fleet.Fleet.{nextFleet}
+use Rattle.boxes.specs.fleet.Fleet.{fleetAfter, fleetRun, begunFleet}
+use Rattle.boxes.specs.fleet.Past.{BoxDetermination, BoxPast, boxDetermination, boxDeterminedBy, boxesDetermined, atClose, boxPastAtEnd}
+use Rattle.boxes.specs.fleet.Past.{boxNoted}
+use Rattle.boxes.specs.fleet.Past.{boxPastAfter, boxTrace, noBoxPast}
+use Rattle.boxes.specs.fleet.Claim.{Begins, BoxHeld, BoxJustified, SameBoxDetermination}
+use Rattle.boxes.proofs.fleet.Theorem.{fleet-holds}
 use Rattle.apart.specs.Apart.{Apart, boxNow, negotiation, lastPhase, tickBox, between, sorted}
 use Rattle.apart.specs.Determined.{placeOfPhase, epochOf, startOf, nodeInPhase, Determines, determined}
 use Rattle.apart.proofs.Local.{Like, within, Within, none, then, within-snoc, but, is-but, kept-run, anyone}
@@ -42,14 +42,14 @@ use Rattle.apart.proofs.Near.{tick-up}
 
 -- The past of a list of events
 
-trace-append : (acts more : List Act) (y : BoxPast) (x : Field)
-    → boxTrace y x (acts ++ more) ≡ boxTrace (boxTrace y x acts) (fieldRun x acts) more
-unfolding boxTrace fieldRun
+trace-append : (acts more : List Act) (y : BoxPast) (x : Fleet)
+    → boxTrace y x (acts ++ more) ≡ boxTrace (boxTrace y x acts) (fleetRun x acts) more
+unfolding boxTrace fleetRun
 trace-append [] more y x = refl
-trace-append (a ∷ acts) more y x = trace-append acts more (boxPastAfter y x a) (fieldAfter x a)
+trace-append (a ∷ acts) more y x = trace-append acts more (boxPastAfter y x a) (fleetAfter x a)
 
 -- events of one box note nothing
-noted-none : (P : ℕ → Bool) (y : BoxPast) (x z : Field) (e : Event) → within P e ≡ true → boxNoted y x e z ≡ y
+noted-none : (P : ℕ → Bool) (y : BoxPast) (x z : Fleet) (e : Event) → within P e ≡ true → boxNoted y x e z ≡ y
 noted-none P y x z (Send j) p = refl
 noted-none P y x z (Hear j q) p = refl
 noted-none P y x z Close p = never (sym p)
@@ -59,18 +59,18 @@ noted-none P y x z (Want j d) p = refl
 noted-none P y x z (Crash j) p = refl
 noted-none P y x z (Restart j flags) p = refl
 
-after-none : (P : ℕ → Bool) (y : BoxPast) (x : Field) (a : Act) → within P (a .event) ≡ true → boxPastAfter y x a ≡ y
+after-none : (P : ℕ → Bool) (y : BoxPast) (x : Fleet) (a : Act) → within P (a .event) ≡ true → boxPastAfter y x a ≡ y
 unfolding boxPastAfter
-after-none P y x a p = read-same (λ (z : BoxPast). z) (isDone (fieldAnswer x (a .event))) (boxNoted y x (a .event) (fieldAfter x a)) y y
-    (noted-none P y x (fieldAfter x a) (a .event) p) refl
+after-none P y x a p = read-same (λ (z : BoxPast). z) (isDone (fleetAnswer x (a .event))) (boxNoted y x (a .event) (fleetAfter x a)) y y
+    (noted-none P y x (fleetAfter x a) (a .event) p) refl
 
-trace-none : {P : ℕ → Bool} (acts : List Act) (y : BoxPast) (x : Field) → Within P acts → boxTrace y x acts ≡ y
+trace-none : {P : ℕ → Bool} (acts : List Act) (y : BoxPast) (x : Fleet) → Within P acts → boxTrace y x acts ≡ y
 unfolding boxTrace
 trace-none [] y x none = refl
-trace-none {P} (a ∷ acts) y x (then p w) = trace-none acts (boxPastAfter y x a) (fieldAfter x a) w ∙ after-none P y x a p
+trace-none {P} (a ∷ acts) y x (then p w) = trace-none acts (boxPastAfter y x a) (fleetAfter x a) w ∙ after-none P y x a p
 
 -- between two phases
-module _ (s : ℕ) (y : BoxPast) (x : Field) where
+module _ (s : ℕ) (y : BoxPast) (x : Fleet) where
   trace-closes : negotiation s ≡ true → x .negotiates ≡ true → boxTrace y x (between s) ≡ atClose y x
   unfolding between boxTrace boxPastAfter
   trace-closes e n = rw (e, n) refl
@@ -80,8 +80,8 @@ module _ (s : ℕ) (y : BoxPast) (x : Field) where
   trace-rests e f = rw (e, f) refl
 
   trace-ends : negotiation s ≡ false → lastPhase s ≡ true → x .negotiates ≡ false
-      → boxTrace y x (between s) ≡ boxPastAtEnd y x (fieldRun x (between s))
-  unfolding between boxTrace boxPastAfter fieldRun
+      → boxTrace y x (between s) ≡ boxPastAtEnd y x (fleetRun x (between s))
+  unfolding between boxTrace boxPastAfter fleetRun
   trace-ends e f n = rw (e, f, n) refl
 
 -- a box that determines is noted
@@ -102,30 +102,30 @@ negotiation-not-last s e = let h : s % 3 ≡ 0 = eqb-true (s % 3) 0 e in ne-eqb 
 
 -- The field after the sorted events: its figures, its place, and its past
 
-module _ (x : Field) (n : x .negotiates ≡ true) (log : ℕ → List Act) (w : (s : ℕ) → Within anyone (log s)) (z : x .place ≡ 0) where
+module _ (x : Fleet) (n : x .negotiates ≡ true) (log : ℕ → List Act) (w : (s : ℕ) → Within anyone (log s)) (z : x .place ≡ 0) where
   abbrev f : Config
   f = x .config
 
-  abbrev X : ℕ → Field
+  abbrev X : ℕ → Fleet
   X s = sync log x s
 
   said : (s : ℕ) → X s .negotiates ≡ negotiation s
   said = sync-phase log x n w
 
   pub config-is : (s : ℕ) → X s .config ≡ f
-  config-is zero = ap (λ (y : Field). y .config) (sync-is log x zero) ∙ sym (kept-run (log zero) x (w zero) .config)
-  config-is (suc s) = ap (λ (y : Field). y .config) (sync-is log x (suc s))
+  config-is zero = ap (λ (y : Fleet). y .config) (sync-is log x zero) ∙ sym (kept-run (log zero) x (w zero) .config)
+  config-is (suc s) = ap (λ (y : Fleet). y .config) (sync-is log x (suc s))
       ∙ sym (kept-run (log (suc s)) (start log x (suc s)) (w (suc s)) .config) ∙ go (kind s) ∙ config-is s
     where
-      go : Kind s → fieldRun (X s) (between s) .config ≡ X s .config
-      go (talk e g) = ap (λ (y : Field). y .config) (closes s (X s) e (said s ∙ e))
-      go (rest e f g) = ap (λ (y : Field). y .config) (rests s (X s) e f)
-      go (last e f g) = ap (λ (y : Field). y .config) (ends s (X s) e f (said s ∙ e))
+      go : Kind s → fleetRun (X s) (between s) .config ≡ X s .config
+      go (talk e g) = ap (λ (y : Fleet). y .config) (closes s (X s) e (said s ∙ e))
+      go (rest e f g) = ap (λ (y : Fleet). y .config) (rests s (X s) e f)
+      go (last e f g) = ap (λ (y : Fleet). y .config) (ends s (X s) e f (said s ∙ e))
 
   pub place-is : (s : ℕ) → X s .place ≡ placeOfPhase f s
   unfolding placeOfPhase
-  place-is zero = ap (λ (y : Field). y .place) (sync-is log x zero) ∙ sym (kept-run (log zero) x (w zero) .place) ∙ z
-  place-is (suc s) = ap (λ (y : Field). y .place) (sync-is log x (suc s))
+  place-is zero = ap (λ (y : Fleet). y .place) (sync-is log x zero) ∙ sym (kept-run (log zero) x (w zero) .place) ∙ z
+  place-is (suc s) = ap (λ (y : Fleet). y .place) (sync-is log x (suc s))
       ∙ sym (kept-run (log (suc s)) (start log x (suc s)) (w (suc s)) .place) ∙ go (place-is s) (kind s)
     where
       p : ℕ
@@ -135,11 +135,11 @@ module _ (x : Field) (n : x .negotiates ≡ true) (log : ℕ → List Act) (w : 
           ≡ cond (lastPhase s) (cond (isLast f p) 0 (p + 1)) p
       on t e = ap (λ (b : Bool). cond b (cond (isLast f p) 0 (p + 1)) p) (sym e)
 
-      go : X s .place ≡ p → Kind s → fieldRun (X s) (between s) .place ≡ cond (lastPhase s) (cond (isLast f p) 0 (p + 1)) p
-      go b (talk e g) = ap (λ (y : Field). y .place) (closes s (X s) e (said s ∙ e)) ∙ b ∙ on false (negotiation-not-last s e)
-      go b (rest e h g) = ap (λ (y : Field). y .place) (rests s (X s) e h) ∙ b ∙ on false h
+      go : X s .place ≡ p → Kind s → fleetRun (X s) (between s) .place ≡ cond (lastPhase s) (cond (isLast f p) 0 (p + 1)) p
+      go b (talk e g) = ap (λ (y : Fleet). y .place) (closes s (X s) e (said s ∙ e)) ∙ b ∙ on false (negotiation-not-last s e)
+      go b (rest e h g) = ap (λ (y : Fleet). y .place) (rests s (X s) e h) ∙ b ∙ on false h
       go b (last e h g) =
-          ap (λ (y : Field). y .place) (ends s (X s) e h (said s ∙ e))
+          ap (λ (y : Fleet). y .place) (ends s (X s) e h (said s ∙ e))
           ∙ ap₂ (λ (k : Config) (q : ℕ). cond (isLast k q) 0 (q + 1)) (config-is s) (b) ∙ on true h
 
   abbrev pub past : ℕ → BoxPast
@@ -153,7 +153,7 @@ module _ (x : Field) (n : x .negotiates ≡ true) (log : ℕ → List Act) (w : 
   unfolding sorted
   past-next s =
       trace-append (sorted log s ++ between s) (log (suc s)) (noBoxPast x) x
-      ∙ trace-none (log (suc s)) (boxTrace (noBoxPast x) x (sorted log s ++ between s)) (fieldRun x (sorted log s ++ between s)) (w (suc s))
+      ∙ trace-none (log (suc s)) (boxTrace (noBoxPast x) x (sorted log s ++ between s)) (fleetRun x (sorted log s ++ between s)) (w (suc s))
       ∙ trace-append (sorted log s) (between s) (noBoxPast x) x
 
   -- the boxes at a round's start
@@ -221,25 +221,25 @@ module _ (x : Field) (n : x .negotiates ≡ true) (log : ℕ → List Act) (w : 
 
 -- Boxes outside 1 to N are down
 
-abbrev Numbered : Field → Type 0
+abbrev Numbered : Fleet → Type 0
 Numbered x = (k : ℕ) → outside (x .config) k ≡ true → x .boxes k .up ≡ false
 
-put-down : (x : Field) (j k : ℕ) (b : Box) → (k ≡ j → b .up ≡ false) → x .boxes k .up ≡ false → change x j b .boxes k .up ≡ false
+put-down : (x : Fleet) (j k : ℕ) (b : Box) → (k ≡ j → b .up ≡ false) → x .boxes k .up ≡ false → change x j b .boxes k .up ≡ false
 put-down x j k b f h = go (eqb k j) refl
   where
     go : (t : Bool) → eqb k j ≡ t → cond t b (x .boxes k) .up ≡ false
     go true e = f (eqb-true k j e)
     go false e = h
 
-restart-out : (x : Field) (j flags : ℕ) → outside (x .config) j ≡ true → isDone (fieldRestart x j flags) ≡ false
-unfolding fieldRestart
+restart-out : (x : Fleet) (j flags : ℕ) → outside (x .config) j ≡ true → isDone (fleetRestart x j flags) ≡ false
+unfolding fleetRestart
 restart-out x j flags o = go (flagsOk (setupOf (x .config) j) flags) (outside (x .config) j) o _
   where
     go : (g o : Bool) → o ≡ true → (a : Answer) → isDone (cond g (cond o NoSuchNode a) OutOfRange) ≡ false
     go false o e a = refl
     go true o e a = ap (λ (t : Bool). isDone (cond t NoSuchNode a)) e
 
-numbered-next : (x : Field) (e : Event) (left : List ℕ) → Numbered x → isDone (fieldAnswer x e) ≡ true → Numbered (nextField x e left)
+numbered-next : (x : Fleet) (e : Event) (left : List ℕ) → Numbered x → isDone (fleetAnswer x e) ≡ true → Numbered (nextFleet x e left)
 numbered-next x (Send j) left h d k o = h k o
 numbered-next x (Hear j p) left h d k o = put-down x j k _ (λ e. ap (λ (i : ℕ). x .boxes i .up) (sym e) ∙ h k o) (h k o)
 numbered-next x Close left h d k o = read-same (λ (c : Box). c .up) (live (x .boxes k)) _ (x .boxes k) false (h k o) (h k o)
@@ -250,21 +250,21 @@ numbered-next x (Crash j) left h d k o = put-down x j k _ (λ e. refl) (h k o)
 numbered-next x (Restart j flags) left h d k o = put-down x j k _
     (λ e. never (sym d ∙ restart-out x j flags (ap (outside (x .config)) (sym e) ∙ o))) (h k o)
 
-numbered-after : (x : Field) (a : Act) → Numbered x → Numbered (fieldAfter x a)
-unfolding fieldAfter
-numbered-after x a h = go (isDone (fieldAnswer x (a .event))) refl
+numbered-after : (x : Fleet) (a : Act) → Numbered x → Numbered (fleetAfter x a)
+unfolding fleetAfter
+numbered-after x a h = go (isDone (fleetAnswer x (a .event))) refl
   where
-    go : (t : Bool) → isDone (fieldAnswer x (a .event)) ≡ t → Numbered (cond t (nextField x (a .event) (a .left)) x)
+    go : (t : Bool) → isDone (fleetAnswer x (a .event)) ≡ t → Numbered (cond t (nextFleet x (a .event) (a .left)) x)
     go true d = numbered-next x (a .event) (a .left) h d
     go false d = h
 
-numbered-run : (acts : List Act) (x : Field) → Numbered x → Numbered (fieldRun x acts)
-unfolding fieldRun
+numbered-run : (acts : List Act) (x : Fleet) → Numbered x → Numbered (fleetRun x acts)
+unfolding fleetRun
 numbered-run [] x h = h
-numbered-run (a ∷ acts) x h = numbered-run acts (fieldAfter x a) (numbered-after x a h)
+numbered-run (a ∷ acts) x h = numbered-run acts (fleetAfter x a) (numbered-after x a h)
 
-numbered-begun : (f : Config) (t : Table) (left : ℕ → List ℕ) → Numbered (begunField f t left)
-unfolding begunField
+numbered-begun : (f : Config) (t : Table) (left : ℕ → List ℕ) → Numbered (begunFleet f t left)
+unfolding begunFleet
 numbered-begun f t left k o = ap not o
 
 -- behind a crash, refused or not, a box is down
@@ -276,11 +276,11 @@ crash-no false false d h = refl
 abbrev crash : ℕ → Act
 crash k = record { event = Crash k; left = [] }
 
-crash-down : (x : Field) (k : ℕ) → Numbered x → fieldAfter x (crash k) .boxes k .up ≡ false
-unfolding fieldAfter fieldCrash
-crash-down x k h = go (isDone (fieldCrash x k)) refl
+crash-down : (x : Fleet) (k : ℕ) → Numbered x → fleetAfter x (crash k) .boxes k .up ≡ false
+unfolding fleetAfter fleetCrash
+crash-down x k h = go (isDone (fleetCrash x k)) refl
   where
-    go : (t : Bool) → isDone (fieldCrash x k) ≡ t → cond t (nextField x (Crash k) []) x .boxes k .up ≡ false
+    go : (t : Bool) → isDone (fleetCrash x k) ≡ t → cond t (nextFleet x (Crash k) []) x .boxes k .up ≡ false
     go true d = ap (λ (t : Bool). cond t (crashed []) (x .boxes k) .up) (eq-eqb k k refl)
     go false d = crash-no (outside (x .config) k) (x .boxes k .up) d (h k)
 
@@ -291,26 +291,26 @@ down-live b e = ap (λ (t : Bool). t && not (eqb (boxPhase (reading b)) 3)) e
 -- What boxes apart determined
 
 module _ (f : Config) (t : Table) (left : ℕ → List ℕ) (b : Begins f t left) where
-  abbrev x : Field
-  x = begunField f t left
+  abbrev x : Fleet
+  x = begunFleet f t left
 
   begun-talks : x .negotiates ≡ true
-  unfolding begunField
+  unfolding begunFleet
   begun-talks = refl
 
   pub begun-place : x .place ≡ 0
-  unfolding begunField
+  unfolding begunFleet
   begun-place = refl
 
   pub begun-config : x .config ≡ f
-  unfolding begunField
+  unfolding begunFleet
   begun-config = refl
 
   module _ (u : f .split ≡ 0) where
     -- of the field after sorted events
     module _ (log : ℕ → List Act) (w : (s : ℕ) → Within anyone (log s)) (s j : ℕ) (g : negotiation s ≡ true) (l : 1 ≤ j) (m : j ≤ f .nodes)
       where
-        abbrev Y : Field
+        abbrev Y : Fleet
         Y = sync log x s
 
         there : live (Y .boxes j) ≡ true → determines (decoded (Y .boxes j .area)) ≡ true
@@ -320,7 +320,7 @@ module _ (f : Config) (t : Table) (left : ℕ → List ℕ) (b : Begins f t left
 
         rests-on : live (Y .boxes j) ≡ true → determines (decoded (Y .boxes j .area)) ≡ true
             → BoxJustified (f .nodes) (boxDetermination (past x begun-talks log w begun-place s) j (decoded (Y .boxes j .area)))
-        rests-on v d = field-holds .demand3 f t left b (sorted log (suc s)) .justified u .justified _ (there v d)
+        rests-on v d = fleet-holds .demand3 f t left b (sorted log (suc s)) .justified u .justified _ (there v d)
 
     module _ (A : Apart) (v : Inv x A) where
       abbrev log : ℕ → List Act
@@ -367,17 +367,17 @@ module _ (f : Config) (t : Table) (left : ℕ → List ℕ) (b : Begins f t left
           held = rests-on longer-log some (suc s) j (D .negotiates .phase) (D .negotiates .number) (D .number)
               (sym (ap live own) ∙ D .negotiates .lives) (sym (ap (λ (z : Box). determines (decoded (z .area))) own) ∙ D .determines)
 
-          began : past x begun-talks longer-log some begun-place (suc s) .start k ≡ tickBox s (fieldAfter (sync log x s) (crash k) .boxes k)
+          began : past x begun-talks longer-log some begun-place (suc s) .start k ≡ tickBox s (fleetAfter (sync log x s) (crash k) .boxes k)
           began =
               ap (λ (z : ℕ → Box). z k) (past-start x begun-talks longer-log some begun-place (suc s) (D .negotiates .phase))
               ∙ tick-box s (sync longer-log x s) k (sync-phase longer-log x begun-talks some s)
-              ∙ ap (λ (z : Field). tickBox s (z .boxes k)) (sync-there log x s (crash k))
+              ∙ ap (λ (z : Fleet). tickBox s (z .boxes k)) (sync-there log x s (crash k))
 
-          lives : live (tickBox s (fieldAfter (sync log x s) (crash k) .boxes k)) ≡ true
+          lives : live (tickBox s (fleetAfter (sync log x s) (crash k) .boxes k)) ≡ true
           lives = sym (ap live began) ∙ held .held k (sym (ap (λ (z : Box). isIn (decoded (z .area) .round .merged) k) own) ∙ i) .live
 
-          down : live (tickBox s (fieldAfter (sync log x s) (crash k) .boxes k)) ≡ false
-          down = down-live _ (tick-up s (fieldAfter (sync log x s) (crash k) .boxes k)
+          down : live (tickBox s (fleetAfter (sync log x s) (crash k) .boxes k)) ≡ false
+          down = down-live _ (tick-up s (fleetAfter (sync log x s) (crash k) .boxes k)
               ∙ crash-down (sync log x s) k (numbered-run (sorted log s) x (numbered-begun f t left)))
 
       pub have-come : (s j k : ℕ) → Determines f A s j → isIn (nodeInPhase A s j .round .merged) k ≡ true → s ≤ A .clock k
@@ -397,7 +397,7 @@ module _ (f : Config) (t : Table) (left : ℕ → List ℕ) (b : Begins f t left
       pub all-justified : (s j : ℕ) → Determines f A s j → BoxJustified (f .nodes) (determined f t left A s j)
       all-justified s j D =
           let e = node-is s j (D .negotiates .came) in
-          let g = field-holds .demand3 f t left b (sorted log (suc s)) .justified u .justified _ (noted s j D) in
+          let g = fleet-holds .demand3 f t left b (sorted log (suc s)) .justified u .justified _ (noted s j D) in
           record {
             most = subst (λ (n : Node). f .nodes < 2 * size (n .round .merged)) (sym e) (g .most);
             held = λ k i.
@@ -413,7 +413,7 @@ module _ (f : Config) (t : Table) (left : ℕ → List ℕ) (b : Begins f t left
       all-unique s i r j D E h =
           let d = node-is s i (D .negotiates .came) in
           let e = node-is r j (E .negotiates .came) in
-          let q = field-holds .demand3 f t left b (sorted log (suc (s + r))) .justified u .unique _ _
+          let q = fleet-holds .demand3 f t left b (sorted log (suc (s + r))) .justified u .unique _ _
           (past-later x begun-talks log (v .some) begun-place (suc s) (suc (s + r)) _ (omega arith) (noted s i D))
           (past-later x begun-talks log (v .some) begun-place (suc r) (suc (s + r)) _ (omega arith) (noted r j E))
           (epoch-is s ∙ h ∙ sym (epoch-is r)) in
@@ -430,13 +430,13 @@ module _ (f : Config) (t : Table) (left : ℕ → List ℕ) (b : Begins f t left
           epoch-is s = past-epoch x begun-talks log (v .some) begun-place s ∙ ap (λ (g : Config). epochOf g s) begun-config
 
 -- a box that is up has a number of the site
-module _ (f : Config) (t : Table) (left : ℕ → List ℕ) (A : Apart) (v : Inv (begunField f t left) A) where
+module _ (f : Config) (t : Table) (left : ℕ → List ℕ) (A : Apart) (v : Inv (begunFleet f t left) A) where
   pub config-now : (s : ℕ) → A .phases s .config ≡ f
-  unfolding begunField
-  config-now s = v .each s .config ∙ config-is (begunField f t left) (v .begun) (A .log) (v .some) refl s
+  unfolding begunFleet
+  config-now s = v .each s .config ∙ config-is (begunFleet f t left) (v .begun) (A .log) (v .some) refl s
 
   pub up-known : (k : ℕ) → boxNow A k .up ≡ true → outside f k ≡ false
-  unfolding begunField
+  unfolding begunFleet
   up-known k u = go (outside f k) refl
     where
       c : ℕ
@@ -445,8 +445,8 @@ module _ (f : Config) (t : Table) (left : ℕ → List ℕ) (A : Apart) (v : Inv
       down : outside f k ≡ true → boxNow A k .up ≡ false
       down o =
           ap (λ (b : Box). b .up) (v .each c .boxes k (le-leb c c (omega arith)))
-          ∙ numbered-run (sorted (A .log) c) (begunField f t left) (numbered-begun f t left) k
-          (ap (λ (g : Config). outside g k) (config-is (begunField f t left) (v .begun) (A .log) (v .some) refl c) ∙ o)
+          ∙ numbered-run (sorted (A .log) c) (begunFleet f t left) (numbered-begun f t left) k
+          (ap (λ (g : Config). outside g k) (config-is (begunFleet f t left) (v .begun) (A .log) (v .some) refl c) ∙ o)
 
       go : (o : Bool) → outside f k ≡ o → outside f k ≡ false
       go true e = clash _ u (down e)

@@ -15,7 +15,7 @@ use Rattle.node.specs.declared.Config.{Config}
 use Rattle.site.specs.declared.Table.{Table}
 use Rattle.site.specs.declared.Event.{Event}
 use Rattle.site.specs.declared.Event.the-variants.{Send, Hear, Close, Take, End, Want, Crash, Restart}
-use Rattle.boxes.specs.field.Field.{Box, Field, Act, change, fieldAnswer, fieldAfter, fieldRun, fieldAnswers, begunField}
+use Rattle.boxes.specs.fleet.Fleet.{Box, Fleet, Act, change, fleetAnswer, fleetAfter, fleetRun, fleetAnswers, begunFleet}
 use Rattle.apart.specs.Apart.{Step, tick, act, Apart, boxNow, actingBox, possible, acted, tickBox, ticked, apartAfter, apartRun}
 use Rattle.apart.specs.Apart.{between}
 use Rattle.apart.specs.Apart.{sorted, begunApart}
@@ -28,17 +28,17 @@ use Rattle.apart.proofs.Sync.{longer-else, sync-before, sync-there, syn
 abbrev pub came : (ℕ → ℕ) → ℕ → ℕ → Bool
 came clock s k = leb s (clock k)
 
-pub record Inv (x : Field) (A : Apart) : Type 0 where
+pub record Inv (x : Fleet) (A : Apart) : Type 0 where
   pub begun : x .negotiates ≡ true
   pub each : (s : ℕ) → Like (came (A .clock) s) (A .phases s) (sync (A .log) x s)
   pub off : (s k : ℕ) → A .clock k < s → Within (but k) (A .log s)
   pub some : (s : ℕ) → Within anyone (A .log s)
-  pub answers : (s : ℕ) → A .answers s ≡ fieldAnswers (start (A .log) x s) (A .log s)
+  pub answers : (s : ℕ) → A .answers s ≡ fleetAnswers (start (A .log) x s) (A .log s)
 
-pub like-self : {P : ℕ → Bool} (x : Field) → Like P x x
+pub like-self : {P : ℕ → Bool} (x : Fleet) → Like P x x
 like-self x = record { config = refl; negotiates = refl; place = refl; air = refl; sent = refl; boxes = λ k p. refl }
 
-like-more : {P Q : ℕ → Bool} {x y z : Field} → Like P x y → Like Q y z → ((k : ℕ) → P k ≡ true → Q k ≡ true) → Like P x z
+like-more : {P Q : ℕ → Bool} {x y z : Fleet} → Like P x y → Like Q y z → ((k : ℕ) → P k ≡ true → Q k ≡ true) → Like P x z
 like-more l m h =
     record {
       config = l .config ∙ m .config;
@@ -79,15 +79,15 @@ came-but clock s k h i p = is-but i k (λ e. let l : s ≤ clock i = leb-true s 
     ≡ clock i = ap clock e in omega arith)
 
 -- an event of one box
-module _ (x : Field) (A : Apart) (v : Inv x A) (a : Act) (r : possible A (a .event) ≡ true) where
+module _ (x : Fleet) (A : Apart) (v : Inv x A) (a : Act) (r : possible A (a .event) ≡ true) where
   abbrev j : ℕ
   j = actingBox (a .event)
 
   abbrev u : ℕ
   u = A .clock j
 
-  abbrev next : ℕ → Field
-  next s = cond (eqb s u) (fieldAfter (A .phases s) a) (A .phases s)
+  abbrev next : ℕ → Fleet
+  next s = cond (eqb s u) (fleetAfter (A .phases s) a) (A .phases s)
 
   inside : within (came (A .clock) u) (a .event) ≡ true
   inside = possible-came A (a .event) r
@@ -95,11 +95,11 @@ module _ (x : Field) (A : Apart) (v : Inv x A) (a : Act) (r : possible A (a .eve
   one : within anyone (a .event) ≡ true
   one = within-anyone (came (A .clock) u) (a .event) inside
 
-  next-there : next u ≡ fieldAfter (A .phases u) a
-  next-there = ap (λ (t : Bool). cond t (fieldAfter (A .phases u) a) (A .phases u)) (eq-eqb u u refl)
+  next-there : next u ≡ fleetAfter (A .phases u) a
+  next-there = ap (λ (t : Bool). cond t (fleetAfter (A .phases u) a) (A .phases u)) (eq-eqb u u refl)
 
   next-else : (s : ℕ) → s ≢ u → next s ≡ A .phases s
-  next-else s h = ap (λ (t : Bool). cond t (fieldAfter (A .phases s) a) (A .phases s)) (ne-eqb s u h)
+  next-else s h = ap (λ (t : Bool). cond t (fleetAfter (A .phases s) a) (A .phases s)) (ne-eqb s u h)
 
   each-there : Like (came (A .clock) u) (next u) (sync (longer (A .log) x u a) x u)
   each-there = rw (next-there, sync-there (A .log) x u a) (after-like (v .each u) a inside)
@@ -116,24 +116,24 @@ module _ (x : Field) (A : Apart) (v : Inv x A) (a : Act) (r : possible A (a .eve
 
   -- the answers
   abbrev answered : ℕ → List Answer
-  answered s = cond (eqb s u) (A .answers s ++ (fieldAnswer (A .phases s) (a .event) ∷ [])) (A .answers s)
+  answered s = cond (eqb s u) (A .answers s ++ (fleetAnswer (A .phases s) (a .event) ∷ [])) (A .answers s)
 
-  answers-there : answered u ≡ fieldAnswers (start (longer (A .log) x u a) x u) (longer (A .log) x u a u)
+  answers-there : answered u ≡ fleetAnswers (start (longer (A .log) x u a) x u) (longer (A .log) x u a u)
   answers-there =
-      ap (λ (t : Bool). cond t (A .answers u ++ (fieldAnswer (A .phases u) (a .event) ∷ [])) (A .answers u)) (eq-eqb u u refl)
+      ap (λ (t : Bool). cond t (A .answers u ++ (fleetAnswer (A .phases u) (a .event) ∷ [])) (A .answers u)) (eq-eqb u u refl)
       ∙ ap₂ (λ (l : List Answer) (r : Answer). l ++ (r ∷ [])) (v .answers u)
-      (same-answer (v .each u) (a .event) inside ∙ ap (λ (y : Field). fieldAnswer y (a .event)) (sync-is (A .log) x u))
+      (same-answer (v .each u) (a .event) inside ∙ ap (λ (y : Fleet). fleetAnswer y (a .event)) (sync-is (A .log) x u))
       ∙ sym (answers-snoc (A .log u) a (start (A .log) x u))
-      ∙ ap₂ (λ (y : Field) (l : List Act). fieldAnswers y l) (sym (start-before (A .log) x u a u (omega arith)))
+      ∙ ap₂ (λ (y : Fleet) (l : List Act). fleetAnswers y l) (sym (start-before (A .log) x u a u (omega arith)))
       (sym (longer-there (A .log) x u a))
 
-  answers-else : (s : ℕ) → s ≢ u → answered s ≡ fieldAnswers (start (longer (A .log) x u a) x s) (longer (A .log) x u a s)
+  answers-else : (s : ℕ) → s ≢ u → answered s ≡ fleetAnswers (start (longer (A .log) x u a) x s) (longer (A .log) x u a s)
   answers-else s h =
-      ap (λ (t : Bool). cond t (A .answers s ++ (fieldAnswer (A .phases s) (a .event) ∷ [])) (A .answers s)) (ne-eqb s u h)
-      ∙ v .answers s ∙ go (decLt s u) ∙ ap (fieldAnswers (start (longer (A .log) x u a) x s)) (sym (longer-else (A .log) x u a s h))
+      ap (λ (t : Bool). cond t (A .answers s ++ (fleetAnswer (A .phases s) (a .event) ∷ [])) (A .answers s)) (ne-eqb s u h)
+      ∙ v .answers s ∙ go (decLt s u) ∙ ap (fleetAnswers (start (longer (A .log) x u a) x s)) (sym (longer-else (A .log) x u a s h))
     where
-      go : Dec (s < u) → fieldAnswers (start (A .log) x s) (A .log s) ≡ fieldAnswers (start (longer (A .log) x u a) x s) (A .log s)
-      go (yes l) = ap (λ (y : Field). fieldAnswers y (A .log s)) (sym (start-before (A .log) x u a s (omega arith)))
+      go : Dec (s < u) → fleetAnswers (start (A .log) x s) (A .log s) ≡ fleetAnswers (start (longer (A .log) x u a) x s) (A .log s)
+      go (yes l) = ap (λ (y : Fleet). fleetAnswers y (A .log s)) (sym (start-before (A .log) x u a s (omega arith)))
       go (no l) =
           let g : u < s = omega (arith, h, l) in
           answers-like (A .log s) _ _ (v .off s j g) (start-later (A .log) x u a (v .begun) (v .some) one (λ t m. v .off t j m) s g)
@@ -154,10 +154,10 @@ module _ (x : Field) (A : Apart) (v : Inv x A) (a : Act) (r : possible A (a .eve
             (within-snoc (A .log u) a (v .some u) one))
             (λ e. subst (Within anyone) (sym (longer-else (A .log) x u a s e)) (v .some s));
         answers = λ s. same-or-not s u (λ e. subst (λ (t : ℕ). answered t
-            ≡ fieldAnswers (start (longer (A .log) x u a) x t) (longer (A .log) x u a t)) (sym e) answers-there) (answers-else s);
+            ≡ fleetAnswers (start (longer (A .log) x u a) x t) (longer (A .log) x u a t)) (sym e) answers-there) (answers-else s);
       }
 
-keeps-acted : (x : Field) (A : Apart) → Inv x A → (a : Act) → Inv x (acted A a)
+keeps-acted : (x : Fleet) (A : Apart) → Inv x A → (a : Act) → Inv x (acted A a)
 unfolding acted
 keeps-acted x A v a = go (possible A (a .event)) refl
   where
@@ -165,9 +165,9 @@ keeps-acted x A v a = go (possible A (a .event)) refl
         → Inv x (cond t
         (record {
           clock = A .clock;
-          phases = λ s. cond (eqb s (A .clock (actingBox (a .event)))) (fieldAfter (A .phases s) a) (A .phases s);
+          phases = λ s. cond (eqb s (A .clock (actingBox (a .event)))) (fleetAfter (A .phases s) a) (A .phases s);
           log = λ s. cond (eqb s (A .clock (actingBox (a .event)))) (A .log s ++ (a ∷ [])) (A .log s);
-          answers = λ s. cond (eqb s (A .clock (actingBox (a .event)))) (A .answers s ++ (fieldAnswer (A .phases s) (a .event) ∷ []))
+          answers = λ s. cond (eqb s (A .clock (actingBox (a .event)))) (A .answers s ++ (fleetAnswer (A .phases s) (a .event) ∷ []))
               (A .answers s);
         })
         A)
@@ -176,7 +176,7 @@ keeps-acted x A v a = go (possible A (a .event)) refl
 
 -- The clock of one box goes on
 
-module _ (x : Field) (A : Apart) (v : Inv x A) (j : ℕ) where
+module _ (x : Fleet) (A : Apart) (v : Inv x A) (j : ℕ) where
   abbrev c : ℕ
   c = A .clock j
 
@@ -192,7 +192,7 @@ module _ (x : Field) (A : Apart) (v : Inv x A) (j : ℕ) where
   abbrev moved : Box
   moved = tickBox c (boxNow A j)
 
-  abbrev behind : ℕ → Field
+  abbrev behind : ℕ → Fleet
   behind s = cond (eqb s (suc c)) (change (A .phases s) j moved) (A .phases s)
 
   -- the box as it is then
@@ -200,8 +200,8 @@ module _ (x : Field) (A : Apart) (v : Inv x A) (j : ℕ) where
   moved-is =
       ap (tickBox c) (v .each c .boxes j (here c))
       ∙ sym (tick-box c (sync (A .log) x c) j (sync-phase (A .log) x (v .begun) (v .some) c))
-      ∙ sym (else-run j (A .log (suc c)) (fieldRun (sync (A .log) x c) (between c)) (v .off (suc c) j (omega arith)))
-      ∙ sym (ap (λ (y : Field). y .boxes j) (sync-next (A .log) x c))
+      ∙ sym (else-run j (A .log (suc c)) (fleetRun (sync (A .log) x c) (between c)) (v .off (suc c) j (omega arith)))
+      ∙ sym (ap (λ (y : Fleet). y .boxes j) (sync-next (A .log) x c))
 
   box-there : (k : ℕ) → came later (suc c) k ≡ true → change (A .phases (suc c)) j moved .boxes k ≡ sync (A .log) x (suc c) .boxes k
   box-there k p = same-or-not k j
@@ -233,9 +233,9 @@ module _ (x : Field) (A : Apart) (v : Inv x A) (j : ℕ) where
   tick-each : (s : ℕ) → Like (came later s) (behind s) (sync (A .log) x s)
   tick-each s = same-or-not s (suc c)
       (λ e. subst (λ (t : ℕ). Like (came later t) (behind t) (sync (A .log) x t)) (sym e)
-      (subst (λ (y : Field). Like (came later (suc c)) y (sync (A .log) x (suc c)))
+      (subst (λ (y : Fleet). Like (came later (suc c)) y (sync (A .log) x (suc c)))
       (sym (ap (λ (t : Bool). cond t (change (A .phases (suc c)) j moved) (A .phases (suc c))) (eq-eqb (suc c) (suc c) refl))) tick-there))
-      (λ e. subst (λ (y : Field). Like (came later s) y (sync (A .log) x s))
+      (λ e. subst (λ (y : Fleet). Like (came later s) y (sync (A .log) x s))
       (sym (ap (λ (t : Bool). cond t (change (A .phases s) j moved) (A .phases s)) (ne-eqb s (suc c) e))) (tick-else s e))
 
   pub tick-keeps : Inv x (ticked A j)
@@ -253,20 +253,20 @@ module _ (x : Field) (A : Apart) (v : Inv x A) (j : ℕ) where
 
 -- Lists of steps
 
-pub keeps : (x : Field) (A : Apart) → Inv x A → (m : Step) → Inv x (apartAfter A m)
+pub keeps : (x : Fleet) (A : Apart) → Inv x A → (m : Step) → Inv x (apartAfter A m)
 keeps x A v (tick j) = tick-keeps x A v j
 keeps x A v (act a) = keeps-acted x A v a
 
-pub keeps-run : (x : Field) (A : Apart) → Inv x A → (steps : List Step) → Inv x (apartRun A steps)
+pub keeps-run : (x : Fleet) (A : Apart) → Inv x A → (steps : List Step) → Inv x (apartRun A steps)
 unfolding apartRun
 keeps-run x A v [] = v
 keeps-run x A v (m ∷ steps) = keeps-run x (apartAfter A m) (keeps x A v m) steps
 
-pub keeps-begun : (f : Config) (t : Table) (left : ℕ → List ℕ) → Inv (begunField f t left) (begunApart f t left)
-unfolding begunApart begunField fieldAnswers
+pub keeps-begun : (f : Config) (t : Table) (left : ℕ → List ℕ) → Inv (begunFleet f t left) (begunApart f t left)
+unfolding begunApart begunFleet fleetAnswers
 keeps-begun f t left = record {
   begun = refl;
-  each = λ s. like-self (fieldRun (begunField f t left) (sorted (λ u. []) s));
+  each = λ s. like-self (fleetRun (begunFleet f t left) (sorted (λ u. []) s));
   off = λ s k h. none;
   some = λ s. none;
   answers = λ s. refl;

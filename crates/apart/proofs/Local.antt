@@ -19,12 +19,12 @@ use Rattle.site.specs.Members.{setupOf, outside}
 use Rattle.node.specs.declared.Config.{Config}
 use Rattle.site.specs.declared.Event.{Event}
 use Rattle.site.specs.declared.Event.the-variants.{Send, Hear, Close, Take, End, Want, Crash, Restart}
-use Rattle.boxes.specs.field.Field.{Box, Field, Act, zeros, live, fieldSend, fieldHear, fieldTake, fieldWant, fieldCrash, fieldRestart}
-use Rattle.boxes.specs.field.Field.{fieldAnswer, boxHolding, change, nextField, fieldAfter, fieldRun, fieldAnswers}
+use Rattle.boxes.specs.fleet.Fleet.{Box, Fleet, Act, zeros, live, fleetSend, fleetHear, fleetTake, fleetWant, fleetCrash, fleetRestart}
+use Rattle.boxes.specs.fleet.Fleet.{fleetAnswer, boxHolding, change, nextFleet, fleetAfter, fleetRun, fleetAnswers}
 use Rattle.apart.specs.Apart.{actingBox}
 
 -- two fields alike but for the boxes outside P
-pub record Like (P : ℕ → Bool) (x y : Field) : Type 0 where
+pub record Like (P : ℕ → Bool) (x y : Fleet) : Type 0 where
   pub config : x .config ≡ y .config
   pub negotiates : x .negotiates ≡ y .negotiates
   pub place : x .place ≡ y .place
@@ -43,9 +43,9 @@ within P (Want j d) = P j
 within P (Crash j) = P j
 within P (Restart j flags) = P j
 
-module _ {P : ℕ → Bool} {x y : Field} (l : Like P x y) where
-  pub same-answer : (e : Event) → within P e ≡ true → fieldAnswer x e ≡ fieldAnswer y e
-  unfolding fieldSend fieldHear fieldTake fieldWant fieldCrash fieldRestart
+module _ {P : ℕ → Bool} {x y : Fleet} (l : Like P x y) where
+  pub same-answer : (e : Event) → within P e ≡ true → fleetAnswer x e ≡ fleetAnswer y e
+  unfolding fleetSend fleetHear fleetTake fleetWant fleetCrash fleetRestart
   same-answer (Send j) p = rw (l .config, l .negotiates, l .sent, l .boxes j p) refl
   same-answer (Hear j q) p = rw (l .config, l .negotiates, l .air, l .boxes j p) refl
   same-answer Close p = never (sym p)
@@ -69,7 +69,7 @@ module _ {P : ℕ → Bool} {x y : Field} (l : Like P x y) where
     boxes = put j b c e;
   }
 
-  next-like : (e : Event) (left : List ℕ) → within P e ≡ true → Like P (nextField x e left) (nextField y e left)
+  next-like : (e : Event) (left : List ℕ) → within P e ≡ true → Like P (nextFleet x e left) (nextFleet y e left)
   next-like (Send j) left p =
       record {
         config = l .config;
@@ -100,14 +100,14 @@ module _ {P : ℕ → Bool} {x y : Field} (l : Like P x y) where
       restarted f g u v b c d e h = λ i. record { up = true; area = afterRestart (h i .area) (setupOf (d i) j) flags (e i); out = h i .out }
 
   -- refused or not
-  pub after-like : (a : Act) → within P (a .event) ≡ true → Like P (fieldAfter x a) (fieldAfter y a)
-  unfolding fieldAfter
+  pub after-like : (a : Act) → within P (a .event) ≡ true → Like P (fleetAfter x a) (fleetAfter y a)
+  unfolding fleetAfter
   after-like a p =
-      subst (λ (r : Answer). Like P (cond (isDone (fieldAnswer x (a .event))) (nextField x (a .event) (a .left)) x)
-      (cond (isDone r) (nextField y (a .event) (a .left)) y)) (same-answer (a .event) p)
-      (go (isDone (fieldAnswer x (a .event))))
+      subst (λ (r : Answer). Like P (cond (isDone (fleetAnswer x (a .event))) (nextFleet x (a .event) (a .left)) x)
+      (cond (isDone r) (nextFleet y (a .event) (a .left)) y)) (same-answer (a .event) p)
+      (go (isDone (fleetAnswer x (a .event))))
     where
-      go : (t : Bool) → Like P (cond t (nextField x (a .event) (a .left)) x) (cond t (nextField y (a .event) (a .left)) y)
+      go : (t : Bool) → Like P (cond t (nextFleet x (a .event) (a .left)) x) (cond t (nextFleet y (a .event) (a .left)) y)
       go true = next-like (a .event) (a .left) p
       go false = l
 
@@ -121,35 +121,35 @@ pub within-snoc : {P : ℕ → Bool} (acts : List Act) (a : Act) → Within P ac
 within-snoc [] a none p = then p none
 within-snoc (b ∷ acts) a (then q w) p = then q (within-snoc acts a w p)
 
-pub run-like : {P : ℕ → Bool} (acts : List Act) (x y : Field) → Within P acts → Like P x y → Like P (fieldRun x acts) (fieldRun y acts)
-unfolding fieldRun
+pub run-like : {P : ℕ → Bool} (acts : List Act) (x y : Fleet) → Within P acts → Like P x y → Like P (fleetRun x acts) (fleetRun y acts)
+unfolding fleetRun
 run-like [] x y none l = l
-run-like (a ∷ acts) x y (then p w) l = run-like acts (fieldAfter x a) (fieldAfter y a) w (after-like l a p)
+run-like (a ∷ acts) x y (then p w) l = run-like acts (fleetAfter x a) (fleetAfter y a) w (after-like l a p)
 
-pub answers-like : {P : ℕ → Bool} (acts : List Act) (x y : Field) → Within P acts → Like P x y → fieldAnswers x acts ≡ fieldAnswers y acts
-unfolding fieldAnswers
+pub answers-like : {P : ℕ → Bool} (acts : List Act) (x y : Fleet) → Within P acts → Like P x y → fleetAnswers x acts ≡ fleetAnswers y acts
+unfolding fleetAnswers
 answers-like [] x y none l = refl
 answers-like (a ∷ acts) x y (then p w) l = ap₂ (λ (r : Answer) (rest : List Answer). r ∷ rest) (same-answer l (a .event) p)
-    (answers-like acts (fieldAfter x a) (fieldAfter y a) w (after-like l a p))
+    (answers-like acts (fleetAfter x a) (fleetAfter y a) w (after-like l a p))
 
-pub answers-append : (acts rest : List Act) (x : Field) → fieldAnswers x (acts ++ rest) ≡ fieldAnswers x acts
-    ++ fieldAnswers (fieldRun x acts) rest
-unfolding fieldAnswers fieldRun
+pub answers-append : (acts rest : List Act) (x : Fleet) → fleetAnswers x (acts ++ rest) ≡ fleetAnswers x acts
+    ++ fleetAnswers (fleetRun x acts) rest
+unfolding fleetAnswers fleetRun
 answers-append [] rest x = refl
-answers-append (a ∷ acts) rest x = ap (λ (l : List Answer). fieldAnswer x (a .event) ∷ l) (answers-append acts rest (fieldAfter x a))
+answers-append (a ∷ acts) rest x = ap (λ (l : List Answer). fleetAnswer x (a .event) ∷ l) (answers-append acts rest (fleetAfter x a))
 
-pub answers-snoc : (acts : List Act) (a : Act) (x : Field) → fieldAnswers x (acts ++ (a ∷ [])) ≡ fieldAnswers x acts
-    ++ (fieldAnswer (fieldRun x acts) (a .event) ∷ [])
-unfolding fieldAnswers fieldRun
+pub answers-snoc : (acts : List Act) (a : Act) (x : Fleet) → fleetAnswers x (acts ++ (a ∷ [])) ≡ fleetAnswers x acts
+    ++ (fleetAnswer (fleetRun x acts) (a .event) ∷ [])
+unfolding fleetAnswers fleetRun
 answers-snoc acts a x = answers-append acts (a ∷ []) x
 
-pub run-append : (acts rest : List Act) (x : Field) → fieldRun x (acts ++ rest) ≡ fieldRun (fieldRun x acts) rest
-unfolding fieldRun
+pub run-append : (acts rest : List Act) (x : Fleet) → fleetRun x (acts ++ rest) ≡ fleetRun (fleetRun x acts) rest
+unfolding fleetRun
 run-append [] rest x = refl
-run-append (a ∷ acts) rest x = run-append acts rest (fieldAfter x a)
+run-append (a ∷ acts) rest x = run-append acts rest (fleetAfter x a)
 
-pub run-snoc : (acts : List Act) (a : Act) (x : Field) → fieldRun x (acts ++ (a ∷ [])) ≡ fieldAfter (fieldRun x acts) a
-unfolding fieldRun
+pub run-snoc : (acts : List Act) (a : Act) (x : Fleet) → fleetRun x (acts ++ (a ∷ [])) ≡ fleetAfter (fleetRun x acts) a
+unfolding fleetRun
 run-snoc acts a x = run-append acts (a ∷ []) x
 
 -- What an event leaves as it was: the figures, the phase and the place; and a box that it is not of
@@ -158,12 +158,12 @@ run-snoc acts a x = run-append acts (a ∷ []) x
 abbrev pub but : ℕ → ℕ → Bool
 but j k = not (eqb k j)
 
-pub record Kept (x y : Field) : Type 0 where
+pub record Kept (x y : Fleet) : Type 0 where
   pub config : x .config ≡ y .config
   pub negotiates : x .negotiates ≡ y .negotiates
   pub place : x .place ≡ y .place
 
-kept-next : (P : ℕ → Bool) (x : Field) (e : Event) (left : List ℕ) → within P e ≡ true → Kept x (nextField x e left)
+kept-next : (P : ℕ → Bool) (x : Fleet) (e : Event) (left : List ℕ) → within P e ≡ true → Kept x (nextFleet x e left)
 kept-next P x (Send j) left p = record { config = refl; negotiates = refl; place = refl }
 kept-next P x (Hear j q) left p = record { config = refl; negotiates = refl; place = refl }
 kept-next P x Close left p = never (sym p)
@@ -173,21 +173,21 @@ kept-next P x (Want j d) left p = record { config = refl; negotiates = refl; pla
 kept-next P x (Crash j) left p = record { config = refl; negotiates = refl; place = refl }
 kept-next P x (Restart j flags) left p = record { config = refl; negotiates = refl; place = refl }
 
-pub kept-after : (P : ℕ → Bool) (x : Field) (a : Act) → within P (a .event) ≡ true → Kept x (fieldAfter x a)
-unfolding fieldAfter
-kept-after P x a p = go (isDone (fieldAnswer x (a .event)))
+pub kept-after : (P : ℕ → Bool) (x : Fleet) (a : Act) → within P (a .event) ≡ true → Kept x (fleetAfter x a)
+unfolding fleetAfter
+kept-after P x a p = go (isDone (fleetAnswer x (a .event)))
   where
-    go : (t : Bool) → Kept x (cond t (nextField x (a .event) (a .left)) x)
+    go : (t : Bool) → Kept x (cond t (nextFleet x (a .event) (a .left)) x)
     go true = kept-next P x (a .event) (a .left) p
     go false = record { config = refl; negotiates = refl; place = refl }
 
-kept-more : {x y z : Field} → Kept x y → Kept y z → Kept x z
+kept-more : {x y z : Fleet} → Kept x y → Kept y z → Kept x z
 kept-more k l = record { config = k .config ∙ l .config; negotiates = k .negotiates ∙ l .negotiates; place = k .place ∙ l .place }
 
-pub kept-run : {P : ℕ → Bool} (acts : List Act) (x : Field) → Within P acts → Kept x (fieldRun x acts)
-unfolding fieldRun
+pub kept-run : {P : ℕ → Bool} (acts : List Act) (x : Fleet) → Within P acts → Kept x (fleetRun x acts)
+unfolding fleetRun
 kept-run [] x none = record { config = refl; negotiates = refl; place = refl }
-kept-run {P} (a ∷ acts) x (then p w) = kept-more (kept-after P x a p) (kept-run acts (fieldAfter x a) w)
+kept-run {P} (a ∷ acts) x (then p w) = kept-more (kept-after P x a p) (kept-run acts (fleetAfter x a) w)
 
 -- another box's number
 pub but-is : (j k : ℕ) → but k j ≡ true → k ≢ j
@@ -196,7 +196,7 @@ but-is j k p e = never {A = ⊥} (sym p ∙ ap not (eq-eqb j k (sym e)))
 pub is-but : (j k : ℕ) → k ≢ j → but k j ≡ true
 is-but j k h = ap not (ne-eqb j k (λ e. h (sym e)))
 
-put-else : (x : Field) (j k : ℕ) (b : Box) → but k j ≡ true → change x j b .boxes k ≡ x .boxes k
+put-else : (x : Fleet) (j k : ℕ) (b : Box) → but k j ≡ true → change x j b .boxes k ≡ x .boxes k
 put-else x j k b p = ap (λ (t : Bool). cond t b (x .boxes k)) (ne-eqb k j (but-is j k p))
 
 -- an event of one box, whichever
@@ -223,8 +223,8 @@ within-actor P (Want j d) p = p
 within-actor P (Crash j) p = p
 within-actor P (Restart j flags) p = p
 
-else-next : (x : Field) (k : ℕ) (e : Event) (left : List ℕ) → within anyone e ≡ true → but k (actingBox e) ≡ true
-    → nextField x e left .boxes k ≡ x .boxes k
+else-next : (x : Fleet) (k : ℕ) (e : Event) (left : List ℕ) → within anyone e ≡ true → but k (actingBox e) ≡ true
+    → nextFleet x e left .boxes k ≡ x .boxes k
 else-next x k (Send j) left w p = refl
 else-next x k (Hear j q) left w p = put-else x j k _ p
 else-next x k Close left w p = never (sym w)
@@ -235,16 +235,16 @@ else-next x k (Crash j) left w p = put-else x j k _ p
 else-next x k (Restart j flags) left w p = put-else x j k _ p
 
 -- an event leaves every box that it is not of
-pub else-after : (x : Field) (k : ℕ) (a : Act) → within anyone (a .event) ≡ true → but k (actingBox (a .event)) ≡ true
-    → fieldAfter x a .boxes k ≡ x .boxes k
-unfolding fieldAfter
-else-after x k a w p = read-same (λ (z : Field). z .boxes k) (isDone (fieldAnswer x (a .event))) _ x _
+pub else-after : (x : Fleet) (k : ℕ) (a : Act) → within anyone (a .event) ≡ true → but k (actingBox (a .event)) ≡ true
+    → fleetAfter x a .boxes k ≡ x .boxes k
+unfolding fleetAfter
+else-after x k a w p = read-same (λ (z : Fleet). z .boxes k) (isDone (fleetAnswer x (a .event))) _ x _
     (else-next x k (a .event) (a .left) w p) refl
 
-pub else-run : (k : ℕ) (acts : List Act) (x : Field) → Within (but k) acts → fieldRun x acts .boxes k ≡ x .boxes k
-unfolding fieldRun
+pub else-run : (k : ℕ) (acts : List Act) (x : Fleet) → Within (but k) acts → fleetRun x acts .boxes k ≡ x .boxes k
+unfolding fleetRun
 else-run k [] x none = refl
-else-run k (a ∷ acts) x (then p w) = else-run k acts (fieldAfter x a) w
+else-run k (a ∷ acts) x (then p w) = else-run k acts (fleetAfter x a) w
     ∙ else-after x k a (within-anyone (but k) (a .event) p) (within-actor (but k) (a .event) p)
 
 -- In distribution no packet is sent
@@ -253,22 +253,22 @@ quiet-send : (n t : Bool) (a : Answer) → n ≡ false → isDone (cond t NoSuch
 quiet-send n true a e = refl
 quiet-send n false a e = ap (λ (b : Bool). isDone (cond (not b) WrongPhase a)) e
 
-silent : (x : Field) (j : ℕ) → x .negotiates ≡ false → isDone (fieldSend x j) ≡ false
-unfolding fieldSend
+silent : (x : Fleet) (j : ℕ) → x .negotiates ≡ false → isDone (fleetSend x j) ≡ false
+unfolding fleetSend
 silent x j e =
     quiet-send (x .negotiates) (outside (x .config) j)
     (cond (not (live (x .boxes j))) NotLive (cond (leb topSent (sentOf (x .sent) j)) TooManyPackets
     (sendingOf (x .boxes j .area) (zeros packetSize)))) e
 
-pub record Quiet (x y : Field) : Type 0 where
+pub record Quiet (x y : Fleet) : Type 0 where
   pub air : x .air ≡ y .air
   pub sent : x .sent ≡ y .sent
 
-pub quiet : (x : Field) (a : Act) → within anyone (a .event) ≡ true → x .negotiates ≡ false → Quiet x (fieldAfter x a)
-unfolding fieldAfter
-quiet x a w n = go (a .event) w (isDone (fieldAnswer x (a .event))) refl
+pub quiet : (x : Fleet) (a : Act) → within anyone (a .event) ≡ true → x .negotiates ≡ false → Quiet x (fleetAfter x a)
+unfolding fleetAfter
+quiet x a w n = go (a .event) w (isDone (fleetAnswer x (a .event))) refl
   where
-    go : (e : Event) → within anyone e ≡ true → (t : Bool) → isDone (fieldAnswer x e) ≡ t → Quiet x (cond t (nextField x e (a .left)) x)
+    go : (e : Event) → within anyone e ≡ true → (t : Bool) → isDone (fleetAnswer x e) ≡ t → Quiet x (cond t (nextFleet x e (a .left)) x)
     go e w false d = record { air = refl; sent = refl }
     go (Send j) w true d = never (sym d ∙ silent x j n)
     go (Hear j q) w true d = record { air = refl; sent = refl }

@@ -14,7 +14,7 @@ use Rattle.node.specs.declared.Config.{Config}
 use Rattle.site.specs.declared.Table.{Table}
 use Rattle.site.specs.declared.Event.{Event}
 use Rattle.site.specs.declared.Event.the-variants.{Send, Hear, Close, Take, End, Want, Crash, Restart}
-use Rattle.boxes.specs.field.Field.{Box, Field, Act, live, change, closeBox, endBox, nextField, fieldAnswer, fieldAfter}
+use Rattle.boxes.specs.fleet.Fleet.{Box, Fleet, Act, live, change, closeBox, endBox, nextFleet, fleetAnswer, fleetAfter}
 use Rattle.apart.specs.Apart.{Step, tick, act, Apart, negotiation, lastPhase, boxNow, actingBox, possible, acted, tickBox, ticked}
 use Rattle.apart.specs.Apart.{apartAfter, apartRun, begunApart}
 use Rattle.apart.specs.Claim.{Abreast, AllAbreast, Waits, Orderly, then}
@@ -88,7 +88,7 @@ module _ (A : Apart) (j : ℕ) where
   unfolding ticked
   now-same k h =
       ap (λ (s : ℕ). next .phases s .boxes k) (clock-else k h)
-      ∙ read-same (λ (y : Field). y .boxes k) (eqb (A .clock k) (suc c)) (change (A .phases (A .clock k)) j (tickBox c (boxNow A j)))
+      ∙ read-same (λ (y : Fleet). y .boxes k) (eqb (A .clock k) (suc c)) (change (A .phases (A .clock k)) j (tickBox c (boxNow A j)))
       (A .phases (A .clock k)) (boxNow A k)
       (ap (λ (t : Bool). cond t (tickBox c (boxNow A j)) (A .phases (A .clock k) .boxes k)) (ne-eqb k j h)) refl
 
@@ -119,12 +119,12 @@ module _ (A : Apart) (j : ℕ) where
 -- An event of one box
 
 -- a box that is up behind an event was up before it, or it restarted
-data WasUp (x : Field) (a : Act) (k : ℕ) : Type 0 where
+data WasUp (x : Fleet) (a : Act) (k : ℕ) : Type 0 where
   was : x .boxes k .up ≡ true → WasUp x a k
   came : (flags : ℕ) → a .event ≡ Restart k flags → x .boxes k .up ≡ false → WasUp x a k
 
 -- one box changed: another was up before, and this one's successor is
-put-up : {P : Type 0} (x : Field) (j k : ℕ) (b : Box) → change x j b .boxes k .up ≡ true → (k ≡ j → b .up ≡ true → P)
+put-up : {P : Type 0} (x : Fleet) (j k : ℕ) (b : Box) → change x j b .boxes k .up ≡ true → (k ≡ j → b .up ≡ true → P)
     → (x .boxes k .up ≡ true → P) → P
 put-up {P} x j k b p f g = go (eqb k j) refl p
   where
@@ -132,7 +132,7 @@ put-up {P} x j k b p f g = go (eqb k j) refl p
     go true e h = f (eqb-true k j e) h
     go false e h = g h
 
-was-next : (x : Field) (a : Act) (e : Event) (k : ℕ) → a .event ≡ e → within anyone e ≡ true → nextField x e (a .left) .boxes k .up ≡ true
+was-next : (x : Fleet) (a : Act) (e : Event) (k : ℕ) → a .event ≡ e → within anyone e ≡ true → nextFleet x e (a .left) .boxes k .up ≡ true
     → WasUp x a k
 was-next x a (Send j) k d w p = was p
 was-next x a (Hear j q) k d w p = put-up x j k _ p (λ e u. was (ap (λ (i : ℕ). x .boxes i .up) e ∙ u)) was
@@ -147,11 +147,11 @@ was-next x a (Restart j flags) k d w p = put-up x j k _ p (λ e u. go e (x .boxe
     go e true h = was h
     go e false h = came flags (d ∙ ap (λ (i : ℕ). Restart i flags) (sym e)) h
 
-was-up : (x : Field) (a : Act) (k : ℕ) → within anyone (a .event) ≡ true → fieldAfter x a .boxes k .up ≡ true → WasUp x a k
-unfolding fieldAfter
-was-up x a k w p = go (isDone (fieldAnswer x (a .event))) p
+was-up : (x : Fleet) (a : Act) (k : ℕ) → within anyone (a .event) ≡ true → fleetAfter x a .boxes k .up ≡ true → WasUp x a k
+unfolding fleetAfter
+was-up x a k w p = go (isDone (fleetAnswer x (a .event))) p
   where
-    go : (t : Bool) → cond t (nextField x (a .event) (a .left)) x .boxes k .up ≡ true → WasUp x a k
+    go : (t : Bool) → cond t (nextFleet x (a .event) (a .left)) x .boxes k .up ≡ true → WasUp x a k
     go true h = was-next x a (a .event) k refl w h
     go false h = was h
 
@@ -190,16 +190,16 @@ was-now A a k p = go (possible A (a .event)) refl p
         → boxNow (cond t
         (record {
           clock = A .clock;
-          phases = λ s. cond (eqb s (A .clock (actingBox (a .event)))) (fieldAfter (A .phases s) a) (A .phases s);
+          phases = λ s. cond (eqb s (A .clock (actingBox (a .event)))) (fleetAfter (A .phases s) a) (A .phases s);
           log = λ s. cond (eqb s (A .clock (actingBox (a .event)))) (A .log s ++ (a ∷ [])) (A .log s);
-          answers = λ s. cond (eqb s (A .clock (actingBox (a .event)))) (A .answers s ++ (fieldAnswer (A .phases s) (a .event) ∷ []))
+          answers = λ s. cond (eqb s (A .clock (actingBox (a .event)))) (A .answers s ++ (fleetAnswer (A .phases s) (a .event) ∷ []))
               (A .answers s);
         })
         A) k .up ≡ true → WasNow A a k
     go false r h = was h
     go true r h = at (eqb c (A .clock (actingBox (a .event)))) h
       where
-        at : (t : Bool) → cond t (fieldAfter (A .phases c) a) (A .phases c) .boxes k .up ≡ true → WasNow A a k
+        at : (t : Bool) → cond t (fleetAfter (A .phases c) a) (A .phases c) .boxes k .up ≡ true → WasNow A a k
         at true g = turn (was-up (A .phases c) a k (possible-any A (a .event) r) g)
         at false g = was g
 

@@ -12,7 +12,7 @@ use Rattle.node.specs.declared.Config.{Config}
 use Rattle.site.specs.declared.Table.{Table}
 use Rattle.site.specs.declared.Event.{Event}
 use Rattle.site.specs.declared.Event.the-variants.{Send, Hear, Close, Take, End, Want, Crash, Restart}
-use Rattle.boxes.specs.field.Field.{Act, begunField}
+use Rattle.boxes.specs.fleet.Fleet.{Act, begunFleet}
 use Rattle.apart.specs.Apart.{Step, tick, act, Apart, lastPhase, actingBox, possible, acted, ticked, begunApart}
 use Rattle.apart.specs.Claim.{Abreast, Waits, Orderly, none, then}
 use Rattle.apart.proofs.Keeps.{Inv, keeps, keeps-begun}
@@ -76,7 +76,7 @@ unfolding acted
 clock-acted A a = read-same (λ (B : Apart). B .clock) (possible A (a .event)) _ A (A .clock) refl refl
 
 module _ (f : Config) (t : Table) (left : ℕ → List ℕ) where
-  waits-tick : (A : Apart) → Inv (begunField f t left) A → (j : ℕ) → waitsBy (f .nodes) (A .clock) (tick j) ≡ true → Waits A (tick j)
+  waits-tick : (A : Apart) → Inv (begunFleet f t left) A → (j : ℕ) → waitsBy (f .nodes) (A .clock) (tick j) ≡ true → Waits A (tick j)
   waits-tick A v j h =
       record {
         ends = λ k e g u i w.
@@ -88,7 +88,7 @@ module _ (f : Config) (t : Table) (left : ℕ → List ℕ) where
         restarts = λ a k flags e g u i w. never (ap isTick e);
       }
 
-  waits-act : (A : Apart) → Inv (begunField f t left) A → (a : Act) → waitsBy (f .nodes) (A .clock) (act a) ≡ true → Waits A (act a)
+  waits-act : (A : Apart) → Inv (begunFleet f t left) A → (a : Act) → waitsBy (f .nodes) (A .clock) (act a) ≡ true → Waits A (act a)
   waits-act A v a h =
       record {
         ends = λ k e g u i w. never (sym (ap isTick e));
@@ -101,19 +101,19 @@ module _ (f : Config) (t : Table) (left : ℕ → List ℕ) where
             (are-abreast (A .clock i) (A .clock (actingBox (a .event))) z);
       }
 
-  by-clocks : (A : Apart) → Inv (begunField f t left) A → (steps : List Step) → orderlyBy (f .nodes) (A .clock) steps ≡ true
+  by-clocks : (A : Apart) → Inv (begunFleet f t left) A → (steps : List Step) → orderlyBy (f .nodes) (A .clock) steps ≡ true
       → Orderly A steps
   unfolding ticked
   by-clocks A v [] h = none
   by-clocks A v (tick j ∷ steps) h =
       let a = waitsBy (f .nodes) (A .clock) (tick j) in
       let b = orderlyBy (f .nodes) (ticked A j .clock) steps in
-      then (waits-tick A v j (and-left a b h)) (by-clocks (ticked A j) (keeps (begunField f t left) A v (tick j)) steps (and-right a b h))
+      then (waits-tick A v j (and-left a b h)) (by-clocks (ticked A j) (keeps (begunFleet f t left) A v (tick j)) steps (and-right a b h))
   by-clocks A v (act c ∷ steps) h =
       let a = waitsBy (f .nodes) (A .clock) (act c) in
       let b = orderlyBy (f .nodes) (A .clock) steps in
       then (waits-act A v c (and-left a b h))
-      (by-clocks (acted A c) (keeps (begunField f t left) A v (act c)) steps
+      (by-clocks (acted A c) (keeps (begunFleet f t left) A v (act c)) steps
       (ap (λ (g : ℕ → ℕ). orderlyBy (f .nodes) g steps) (clock-acted A c) ∙ and-right a b h))
 
   -- from the beginning, with all clocks at 0

@@ -15,7 +15,7 @@ use Rattle.node.specs.Figures.{isLast}
 use Rattle.node.specs.declared.Config.{Config}
 use Rattle.node.specs.declared.Answer.{Answer}
 use Rattle.site.specs.declared.Event.the-variants.{Close, End}
-use Rattle.boxes.specs.field.Field.{Field, Act, closeBox, endBox, nextField, fieldAfter, fieldRun, fieldAnswers}
+use Rattle.boxes.specs.fleet.Fleet.{Fleet, Act, closeBox, endBox, nextFleet, fleetAfter, fleetRun, fleetAnswers}
 use Rattle.apart.specs.Apart.{negotiation, lastPhase, actingBox, tickBox, between, sorted, betweenAnswers, sortedAnswers}
 use Rattle.apart.proofs.Local.{Like, within, Within, run-like, answers-append, run-append, run-snoc, but, but-is, is-but, Kept}
 use Rattle.apart.proofs.Local.{kept-after, kept-run, anyone, else-after, Quiet, quiet}
@@ -38,49 +38,49 @@ kind s = go (negotiation s) (lastPhase s) refl refl
         rest e f (ne-eqb (suc s % 3) 0 (λ d. omega (arith, h, g, d)))
 
 -- what stands between two phases
-module _ (s : ℕ) (x : Field) where
-  pub closes : negotiation s ≡ true → x .negotiates ≡ true → fieldRun x (between s) ≡ nextField x Close []
-  unfolding between fieldRun fieldAfter
+module _ (s : ℕ) (x : Fleet) where
+  pub closes : negotiation s ≡ true → x .negotiates ≡ true → fleetRun x (between s) ≡ nextFleet x Close []
+  unfolding between fleetRun fleetAfter
   closes e n = rw (e, n) refl
 
-  pub rests : negotiation s ≡ false → lastPhase s ≡ false → fieldRun x (between s) ≡ x
-  unfolding between fieldRun
+  pub rests : negotiation s ≡ false → lastPhase s ≡ false → fleetRun x (between s) ≡ x
+  unfolding between fleetRun
   rests e f = rw (e, f) refl
 
-  pub ends : negotiation s ≡ false → lastPhase s ≡ true → x .negotiates ≡ false → fieldRun x (between s) ≡ nextField x End []
-  unfolding between fieldRun fieldAfter
+  pub ends : negotiation s ≡ false → lastPhase s ≡ true → x .negotiates ≡ false → fleetRun x (between s) ≡ nextFleet x End []
+  unfolding between fleetRun fleetAfter
   ends e f n = rw (e, f, n) refl
 
 -- what it makes of a box
-pub tick-box : (s : ℕ) (x : Field) (j : ℕ) → x .negotiates ≡ negotiation s → fieldRun x (between s) .boxes j ≡ tickBox s (x .boxes j)
+pub tick-box : (s : ℕ) (x : Fleet) (j : ℕ) → x .negotiates ≡ negotiation s → fleetRun x (between s) .boxes j ≡ tickBox s (x .boxes j)
 tick-box s x j n = go (kind s)
   where
-    go : Kind s → fieldRun x (between s) .boxes j ≡ tickBox s (x .boxes j)
-    go (talk e g) = ap (λ (y : Field). y .boxes j) (closes s x e (n ∙ e)) ∙ sym (hit (negotiation s) (closeBox (x .boxes j)) _ e)
-    go (rest e f g) = ap (λ (y : Field). y .boxes j) (rests s x e f)
+    go : Kind s → fleetRun x (between s) .boxes j ≡ tickBox s (x .boxes j)
+    go (talk e g) = ap (λ (y : Fleet). y .boxes j) (closes s x e (n ∙ e)) ∙ sym (hit (negotiation s) (closeBox (x .boxes j)) _ e)
+    go (rest e f g) = ap (λ (y : Fleet). y .boxes j) (rests s x e f)
         ∙ sym (ap₂ (λ (p q : Bool). cond p (closeBox (x .boxes j)) (cond q (endBox (x .boxes j)) (x .boxes j))) e f)
-    go (last e f g) = ap (λ (y : Field). y .boxes j) (ends s x e f (n ∙ e))
+    go (last e f g) = ap (λ (y : Fleet). y .boxes j) (ends s x e f (n ∙ e))
         ∙ sym (ap₂ (λ (p q : Bool). cond p (closeBox (x .boxes j)) (cond q (endBox (x .boxes j)) (x .boxes j))) e f)
 
 -- and of the phase
-tick-phase : (s : ℕ) (x : Field) → x .negotiates ≡ negotiation s → fieldRun x (between s) .negotiates ≡ negotiation (suc s)
+tick-phase : (s : ℕ) (x : Fleet) → x .negotiates ≡ negotiation s → fleetRun x (between s) .negotiates ≡ negotiation (suc s)
 tick-phase s x n = go (kind s)
   where
-    go : Kind s → fieldRun x (between s) .negotiates ≡ negotiation (suc s)
-    go (talk e g) = ap (λ (y : Field). y .negotiates) (closes s x e (n ∙ e)) ∙ sym g
-    go (rest e f g) = ap (λ (y : Field). y .negotiates) (rests s x e f) ∙ n ∙ e ∙ sym g
-    go (last e f g) = ap (λ (y : Field). y .negotiates) (ends s x e f (n ∙ e)) ∙ sym g
+    go : Kind s → fleetRun x (between s) .negotiates ≡ negotiation (suc s)
+    go (talk e g) = ap (λ (y : Fleet). y .negotiates) (closes s x e (n ∙ e)) ∙ sym g
+    go (rest e f g) = ap (λ (y : Fleet). y .negotiates) (rests s x e f) ∙ n ∙ e ∙ sym g
+    go (last e f g) = ap (λ (y : Fleet). y .negotiates) (ends s x e f (n ∙ e)) ∙ sym g
 
 -- and of two fields that are alike but for some boxes, and for the packets of a negotiation, which lapse
-between-like : {P : ℕ → Bool} (s : ℕ) (x y : Field) → x .negotiates ≡ negotiation s → Kept x y
+between-like : {P : ℕ → Bool} (s : ℕ) (x y : Fleet) → x .negotiates ≡ negotiation s → Kept x y
     → ((k : ℕ) → P k ≡ true → x .boxes k ≡ y .boxes k) → (x .negotiates ≡ false → Quiet x y)
-    → Like P (fieldRun x (between s)) (fieldRun y (between s))
+    → Like P (fleetRun x (between s)) (fleetRun y (between s))
 between-like {P} s x y n k b q = go (kind s)
   where
     m : y .negotiates ≡ negotiation s
     m = sym (k .negotiates) ∙ n
 
-    go : Kind s → Like P (fieldRun x (between s)) (fieldRun y (between s))
+    go : Kind s → Like P (fleetRun x (between s)) (fleetRun y (between s))
     go (talk e g) =
         rw (closes s x e (n ∙ e), closes s y e (m ∙ e))
         (record { config = k .config; negotiates = refl; place = k .place; air = refl; sent = refl; boxes = λ i p. ap closeBox (b i p) })
@@ -107,48 +107,48 @@ between-like {P} s x y n k b q = go (kind s)
 
 -- The field after the sorted events
 
-abbrev pub sync : (ℕ → List Act) → Field → ℕ → Field
-sync log x s = fieldRun x (sorted log s)
+abbrev pub sync : (ℕ → List Act) → Fleet → ℕ → Fleet
+sync log x s = fleetRun x (sorted log s)
 
 -- the field at the start of a phase
-abbrev pub start : (ℕ → List Act) → Field → ℕ → Field
+abbrev pub start : (ℕ → List Act) → Fleet → ℕ → Fleet
 start log x zero = x
-start log x (suc s) = fieldRun (sync log x s) (between s)
+start log x (suc s) = fleetRun (sync log x s) (between s)
 
-pub sync-first : (log : ℕ → List Act) (x : Field) → sync log x zero ≡ fieldRun x (log zero)
+pub sync-first : (log : ℕ → List Act) (x : Fleet) → sync log x zero ≡ fleetRun x (log zero)
 unfolding sorted
 sync-first log x = refl
 
-pub sync-next : (log : ℕ → List Act) (x : Field) (s : ℕ) → sync log x (suc s) ≡ fieldRun (fieldRun (sync log x s) (between s)) (log (suc s))
+pub sync-next : (log : ℕ → List Act) (x : Fleet) (s : ℕ) → sync log x (suc s) ≡ fleetRun (fleetRun (sync log x s) (between s)) (log (suc s))
 unfolding sorted
 sync-next log x s = run-append (sorted log s ++ between s) (log (suc s)) x
-    ∙ ap (λ (y : Field). fieldRun y (log (suc s))) (run-append (sorted log s) (between s) x)
+    ∙ ap (λ (y : Fleet). fleetRun y (log (suc s))) (run-append (sorted log s) (between s) x)
 
-pub sync-is : (log : ℕ → List Act) (x : Field) (s : ℕ) → sync log x s ≡ fieldRun (start log x s) (log s)
+pub sync-is : (log : ℕ → List Act) (x : Fleet) (s : ℕ) → sync log x s ≡ fleetRun (start log x s) (log s)
 sync-is log x zero = sync-first log x
 sync-is log x (suc s) = sync-next log x s
 
-pub sync-phase : (log : ℕ → List Act) (x : Field) → x .negotiates ≡ true → ((s : ℕ) → Within anyone (log s)) → (s : ℕ)
+pub sync-phase : (log : ℕ → List Act) (x : Fleet) → x .negotiates ≡ true → ((s : ℕ) → Within anyone (log s)) → (s : ℕ)
     → sync log x s .negotiates ≡ negotiation s
-sync-phase log x n w zero = ap (λ (y : Field). y .negotiates) (sync-first log x) ∙ sym (kept-run (log zero) x (w zero) .negotiates) ∙ n
+sync-phase log x n w zero = ap (λ (y : Fleet). y .negotiates) (sync-first log x) ∙ sym (kept-run (log zero) x (w zero) .negotiates) ∙ n
 sync-phase log x n w (suc s) =
-    ap (λ (y : Field). y .negotiates) (sync-next log x s)
-    ∙ sym (kept-run (log (suc s)) (fieldRun (sync log x s) (between s)) (w (suc s)) .negotiates)
+    ap (λ (y : Fleet). y .negotiates) (sync-next log x s)
+    ∙ sym (kept-run (log (suc s)) (fleetRun (sync log x s) (between s)) (w (suc s)) .negotiates)
     ∙ tick-phase s (sync log x s) (sync-phase log x n w s)
 
 -- The answers
 
-between-answers : (s : ℕ) (x : Field) → x .negotiates ≡ negotiation s → fieldAnswers x (between s) ≡ betweenAnswers s
-unfolding between betweenAnswers fieldAnswers
+between-answers : (s : ℕ) (x : Fleet) → x .negotiates ≡ negotiation s → fleetAnswers x (between s) ≡ betweenAnswers s
+unfolding between betweenAnswers fleetAnswers
 between-answers s x n = go (kind s)
   where
-    go : Kind s → fieldAnswers x (between s) ≡ betweenAnswers s
+    go : Kind s → fleetAnswers x (between s) ≡ betweenAnswers s
     go (talk e g) = let m : x .negotiates ≡ true = n ∙ e in rw (e, m) refl
     go (rest e f g) = rw (e, f) refl
     go (last e f g) = let m : x .negotiates ≡ false = n ∙ e in rw (e, f, m) refl
 
-pub sync-answers : (log : ℕ → List Act) (answers : ℕ → List Answer) (x : Field) → x .negotiates ≡ true → ((s : ℕ) → Within anyone (log s))
-    → ((s : ℕ) → answers s ≡ fieldAnswers (start log x s) (log s)) → (s : ℕ) → fieldAnswers x (sorted log s) ≡ sortedAnswers answers s
+pub sync-answers : (log : ℕ → List Act) (answers : ℕ → List Answer) (x : Fleet) → x .negotiates ≡ true → ((s : ℕ) → Within anyone (log s))
+    → ((s : ℕ) → answers s ≡ fleetAnswers (start log x s) (log s)) → (s : ℕ) → fleetAnswers x (sorted log s) ≡ sortedAnswers answers s
 unfolding sorted sortedAnswers
 sync-answers log answers x n w h zero = sym (h zero)
 sync-answers log answers x n w h (suc s) =
@@ -156,11 +156,11 @@ sync-answers log answers x n w h (suc s) =
     ∙ ap₂ (λ (p q : List Answer). p ++ q)
     (answers-append (sorted log s) (between s) x ∙ ap₂ (λ (p q : List Answer). p ++ q) (sync-answers log answers x n w h s)
     (between-answers s (sync log x s) (sync-phase log x n w s)))
-    (ap (λ (y : Field). fieldAnswers y (log (suc s))) (run-append (sorted log s) (between s) x) ∙ sym (h (suc s)))
+    (ap (λ (y : Fleet). fleetAnswers y (log (suc s))) (run-append (sorted log s) (between s) x) ∙ sym (h (suc s)))
 
 -- An event more, in phase u
 
-module _ (log : ℕ → List Act) (x : Field) (u : ℕ) (a : Act) where
+module _ (log : ℕ → List Act) (x : Fleet) (u : ℕ) (a : Act) where
   abbrev pub longer : ℕ → List Act
   longer s = cond (eqb s u) (log s ++ (a ∷ [])) (log s)
 
@@ -177,24 +177,24 @@ module _ (log : ℕ → List Act) (x : Field) (u : ℕ) (a : Act) where
       (longer-else (suc s) (λ e. omega arith))
 
   pub sync-before : (s : ℕ) → s < u → sync longer x s ≡ sync log x s
-  sync-before s h = ap (fieldRun x) (sorted-before s h)
+  sync-before s h = ap (fleetRun x) (sorted-before s h)
 
-  pub sync-there : sync longer x u ≡ fieldAfter (sync log x u) a
+  pub sync-there : sync longer x u ≡ fleetAfter (sync log x u) a
   unfolding sorted
   sync-there = go u refl
     where
-      go : (s : ℕ) → s ≡ u → sync longer x s ≡ fieldAfter (sync log x s) a
-      go zero e = ap (fieldRun x) (subst (λ (v : ℕ). longer v ≡ log v ++ (a ∷ [])) (sym e) longer-there) ∙ run-snoc (log zero) a x
+      go : (s : ℕ) → s ≡ u → sync longer x s ≡ fleetAfter (sync log x s) a
+      go zero e = ap (fleetRun x) (subst (λ (v : ℕ). longer v ≡ log v ++ (a ∷ [])) (sym e) longer-there) ∙ run-snoc (log zero) a x
       go (suc s) e =
-          ap₂ (λ (p q : List Act). fieldRun x ((p ++ between s) ++ q)) (sorted-before s (omega arith))
+          ap₂ (λ (p q : List Act). fleetRun x ((p ++ between s) ++ q)) (sorted-before s (omega arith))
           (subst (λ (v : ℕ). longer v ≡ log v ++ (a ∷ [])) (sym e) longer-there)
           ∙ run-append (sorted log s ++ between s) (log (suc s) ++ (a ∷ [])) x
-          ∙ run-snoc (log (suc s)) a (fieldRun x (sorted log s ++ between s))
-          ∙ ap (λ (y : Field). fieldAfter y a) (sym (run-append (sorted log s ++ between s) (log (suc s)) x))
+          ∙ run-snoc (log (suc s)) a (fleetRun x (sorted log s ++ between s))
+          ∙ ap (λ (y : Fleet). fleetAfter y a) (sym (run-append (sorted log s ++ between s) (log (suc s)) x))
 
   pub start-before : (s : ℕ) → s ≤ u → start longer x s ≡ start log x s
   start-before zero h = refl
-  start-before (suc s) h = ap (λ (y : Field). fieldRun y (between s)) (sync-before s h)
+  start-before (suc s) h = ap (λ (y : Fleet). fleetRun y (between s)) (sync-before s h)
 
   -- the phases behind it, if the box whose event it is has not come to them
   module _ (n : x .negotiates ≡ true) (w : (s : ℕ) → Within anyone (log s)) (one : within anyone (a .event) ≡ true)
@@ -208,17 +208,17 @@ module _ (log : ℕ → List Act) (x : Field) (u : ℕ) (a : Act) where
     flip : (k : ℕ) → P k ≡ true → but k (actingBox (a .event)) ≡ true
     flip k p = is-but (actingBox (a .event)) k (λ e. but-is k (actingBox (a .event)) p (sym e))
 
-    start-next : Like P (fieldRun (sync log x u) (between u)) (fieldRun (sync longer x u) (between u))
+    start-next : Like P (fleetRun (sync log x u) (between u)) (fleetRun (sync longer x u) (between u))
     start-next =
         rw sync-there
-        (between-like u (sync log x u) (fieldAfter (sync log x u) a) (sync-phase log x n w u) (kept-after anyone (sync log x u) a one)
+        (between-like u (sync log x u) (fleetAfter (sync log x u) a) (sync-phase log x n w u) (kept-after anyone (sync log x u) a one)
         (λ k p. sym (else-after (sync log x u) k a one (flip k p)))
         (quiet (sync log x u) a one))
 
     pub start-later : (s : ℕ) → u < s → Like P (start log x s) (start longer x s)
     start-later zero h = absurd (not-suc-le-zero h)
     start-later (suc s) h = same-or-not s u
-        (λ e. subst (λ (v : ℕ). Like P (fieldRun (sync log x v) (between v)) (fieldRun (sync longer x v) (between v))) (sym e) start-next)
+        (λ e. subst (λ (v : ℕ). Like P (fleetRun (sync log x v) (between v)) (fleetRun (sync longer x v) (between v))) (sym e) start-next)
         (λ e.
         let l = run-on s (omega arith) (start-later s (omega arith)) in
         between-like s (sync log x s) (sync longer x s) (sync-phase log x n w s) (record {

@@ -17,9 +17,9 @@ use Rattle.node.specs.declared.Config.{Config}
 use Rattle.site.specs.declared.Table.{Table}
 use Rattle.site.specs.Answers.{areaSize}
 use Rattle.host.specs.Calls.{slotsSize, slotsAnswer}
-use Rattle.boxes.specs.field.Field.{Box, Field, zeros, reading, versionIn, slotIn, live, fieldRun, begunField}
-use Rattle.boxes.specs.field.Claim.{Begins, ReportsAgree, SlotsApart, SlotsAsRead, fieldFinal}
-use Rattle.boxes.proofs.field.Theorem.{field-holds}
+use Rattle.boxes.specs.fleet.Fleet.{Box, Fleet, zeros, reading, versionIn, slotIn, live, fleetRun, begunFleet}
+use Rattle.boxes.specs.fleet.Claim.{Begins, ReportsAgree, SlotsApart, SlotsAsRead, fleetFinal}
+use Rattle.boxes.proofs.fleet.Theorem.{fleet-holds}
 use Rattle.apart.specs.Apart.{Step, Apart, negotiation, boxNow, tickBox, apartAfter, apartRun, between, sorted, sortedBefore}
 use Rattle.apart.specs.Apart.{begunApart}
 use Rattle.apart.specs.Determined.{placeOfPhase, startOf, Negotiates}
@@ -49,33 +49,33 @@ same-phase c d p q a =
     let o = a .other in
     omega arith
 
-module _ (f : Config) (t : Table) (left : ℕ → List ℕ) (b : Begins f t left) (A : Apart) (v : Inv (begunField f t left) A) where
-  started : (s j : ℕ) → s ≤ A .clock j → startOf f t left A s j ≡ fieldFinal f t left (sortedBefore (A .log) s) .boxes j
-  unfolding sortedBefore fieldRun
+module _ (f : Config) (t : Table) (left : ℕ → List ℕ) (b : Begins f t left) (A : Apart) (v : Inv (begunFleet f t left) A) where
+  started : (s j : ℕ) → s ≤ A .clock j → startOf f t left A s j ≡ fleetFinal f t left (sortedBefore (A .log) s) .boxes j
+  unfolding sortedBefore fleetRun
   started zero j h = refl
   started (suc s) j h =
       ap (tickBox s) (v .each s .boxes j (le-leb s (A .clock j) (omega arith)))
-      ∙ sym (tick-box s (fieldFinal f t left (sorted (A .log) s)) j (sync-phase (A .log) (begunField f t left) (v .begun) (v .some) s))
-      ∙ ap (λ (y : Field). y .boxes j) (sym (run-append (sorted (A .log) s) (between s) (begunField f t left)))
+      ∙ sym (tick-box s (fleetFinal f t left (sorted (A .log) s)) j (sync-phase (A .log) (begunFleet f t left) (v .begun) (v .some) s))
+      ∙ ap (λ (y : Fleet). y .boxes j) (sym (run-append (sorted (A .log) s) (between s) (begunFleet f t left)))
 
   -- the phase of the sorted list
-  phase-of : (s : ℕ) → fieldFinal f t left (sorted (A .log) s) .negotiates ≡ negotiation s
-  phase-of = sync-phase (A .log) (begunField f t left) (v .begun) (v .some)
+  phase-of : (s : ℕ) → fleetFinal f t left (sorted (A .log) s) .negotiates ≡ negotiation s
+  phase-of = sync-phase (A .log) (begunFleet f t left) (v .begun) (v .some)
 
   one : AsOne f t left A
   one =
       record {
         boxes = λ s j h. v .each s .boxes j (le-leb s (A .clock j) h);
         starts = started;
-        phase = λ s. v .each s .negotiates ∙ sync-phase (A .log) (begunField f t left) (v .begun) (v .some) s;
-        place = λ s. v .each s .place ∙ place-is (begunField f t left) (v .begun) (A .log) (v .some) (begun-place f t left b) s
+        phase = λ s. v .each s .negotiates ∙ sync-phase (A .log) (begunFleet f t left) (v .begun) (v .some) s;
+        place = λ s. v .each s .place ∙ place-is (begunFleet f t left) (v .begun) (A .log) (v .some) (begun-place f t left b) s
             ∙ ap (λ (g : Config). placeOfPhase g s) (begun-config f t left b);
-        answers = sync-answers (A .log) (A .answers) (begunField f t left) (v .begun) (v .some) (v .answers);
-        demand3 = λ s. field-holds .demand3 f t left b (sorted (A .log) s);
+        answers = sync-answers (A .log) (A .answers) (begunFleet f t left) (v .begun) (v .some) (v .answers);
+        demand3 = λ s. fleet-holds .demand3 f t left b (sorted (A .log) s);
       }
 
-  abbrev x : ℕ → Field
-  x s = fieldFinal f t left (sorted (A .log) s)
+  abbrev x : ℕ → Fleet
+  x s = fleetFinal f t left (sorted (A .log) s)
 
   -- a box in negotiation is live in the sorted list
   in-one : (s k : ℕ) (n : Negotiates A s k) → live (x s .boxes k) ≡ true
@@ -173,7 +173,7 @@ module _ (f : Config) (t : Table) (left : ℕ → List ℕ) (b : Begins f t left
   }
 
 -- what a box reads, over a list of steps that passes it by
-settled-run : (f : Config) (t : Table) (left : ℕ → List ℕ) → Begins f t left → (A : Apart) → Inv (begunField f t left) A
+settled-run : (f : Config) (t : Table) (left : ℕ → List ℕ) → Begins f t left → (A : Apart) → Inv (begunFleet f t left) A
     → (more : List Step) (j : ℕ) → 1 ≤ j
     → negotiation (A .clock j) ≡ true → boxNow A j .up ≡ true → allStay j more ≡ true
     → SameReading (boxNow A j) (boxNow (apartRun A more) j)
@@ -185,11 +185,11 @@ settled-run f t left b A v (m ∷ more) j n g u p =
     let w = valid-now f t left b A v j n u in
     let s = step-settled A j h u w m q in
     let c = step-clock A j m q in
-    go-on s (settled-run f t left b (apartAfter A m) (keeps (begunField f t left) A v m) more j n (ap negotiation c ∙ g) (s .up ∙ u)
+    go-on s (settled-run f t left b (apartAfter A m) (keeps (begunFleet f t left) A v m) more j n (ap negotiation c ∙ g) (s .up ∙ u)
     (and-right (stays j m) (allStay j more) p))
 
 -- so it uses at the end of such a list what it used at its start
-uses-run : (f : Config) (t : Table) (left : ℕ → List ℕ) → Begins f t left → (A : Apart) → Inv (begunField f t left) A
+uses-run : (f : Config) (t : Table) (left : ℕ → List ℕ) → Begins f t left → (A : Apart) → Inv (begunFleet f t left) A
     → (more : List Step) (j k : ℕ)
     → allStay j more ≡ true → Reads A j k → Reads (apartRun A more) j k
 uses-run f t left b A v more j k p u =
@@ -253,8 +253,8 @@ apart-holds =
     }
   where
     reached : (f : Config) (t : Table) (left : ℕ → List ℕ) (steps : List Step)
-        → Inv (begunField f t left) (apartRun (begunApart f t left) steps)
-    reached f t left steps = keeps-run (begunField f t left) (begunApart f t left) (keeps-begun f t left) steps
+        → Inv (begunFleet f t left) (apartRun (begunApart f t left) steps)
+    reached f t left steps = keeps-run (begunFleet f t left) (begunApart f t left) (keeps-begun f t left) steps
 
     has : (f : Config) (t : Table) (left : ℕ → List ℕ) → Begins f t left → (steps : List Step) (j k : ℕ) → Uses f t left steps j k
         → Reads (apartRun (begunApart f t left) steps) j k

@@ -36,8 +36,8 @@ use Rattle.node.specs.Figures.{flagsOk}
 use Rattle.site.specs.Members.{setupOf, outside}
 use Rattle.site.specs.declared.Event.{Event}
 use Rattle.site.specs.declared.Event.the-variants.{Send, Hear, Close, Take, End, Want, Crash, Restart}
-use Rattle.boxes.specs.field.Field.{Box, Field, Act, zeros, versionIn, boxOwners, boxPhase, live, packet, change, fieldTake, fieldRestart}
-use Rattle.boxes.specs.field.Field.{fieldAnswer, nextField, fieldAfter}
+use Rattle.boxes.specs.fleet.Fleet.{Box, Fleet, Act, zeros, versionIn, boxOwners, boxPhase, live, packet, change, fleetTake, fleetRestart}
+use Rattle.boxes.specs.fleet.Fleet.{fleetAnswer, nextFleet, fleetAfter}
 use Rattle.apart.specs.Apart.{Step, tick, act, Apart, boxNow, actingBox, possible, acted, ticked, apartAfter, apartRun}
 use Rattle.apart.specs.Claim.{SameReading, noCrash, stays, allStay}
 use Rattle.apart.proofs.Local.{within, anyone, but-is}
@@ -123,7 +123,7 @@ go-on p q = record {
   own = q .own ∙ p .own;
 }
 
-settled-put : (x : Field) (i j : ℕ) (c : Box) → (i ≡ j → SameReading (x .boxes i) c) → SameReading (x .boxes j) (change x i c .boxes j)
+settled-put : (x : Fleet) (i j : ℕ) (c : Box) → (i ≡ j → SameReading (x .boxes i) c) → SameReading (x .boxes j) (change x i c .boxes j)
 settled-put x i j c f = go (eqb j i) refl
   where
     go : (t : Bool) → eqb j i ≡ t → SameReading (x .boxes j) (cond t c (x .boxes j))
@@ -131,16 +131,16 @@ settled-put x i j c f = go (eqb j i) refl
     go false e = still (x .boxes j)
 
 -- no taking in negotiation, and no restart of a box that is up
-take-no : (x : Field) (i h : ℕ) → x .negotiates ≡ true → isDone (fieldTake x i h) ≡ false
-unfolding fieldTake
+take-no : (x : Fleet) (i h : ℕ) → x .negotiates ≡ true → isDone (fleetTake x i h) ≡ false
+unfolding fleetTake
 take-no x i h n = go (outside (x .config) i || outside (x .config) h) (x .negotiates) n _
   where
     go : (o p : Bool) → p ≡ true → (a : Answer) → isDone (cond o NoSuchNode (cond p WrongPhase a)) ≡ false
     go true p e a = refl
     go false p e a = ap (λ (t : Bool). isDone (cond t WrongPhase a)) e
 
-restart-no : (x : Field) (i flags : ℕ) → x .boxes i .up ≡ true → isDone (fieldRestart x i flags) ≡ false
-unfolding fieldRestart
+restart-no : (x : Fleet) (i flags : ℕ) → x .boxes i .up ≡ true → isDone (fleetRestart x i flags) ≡ false
+unfolding fleetRestart
 restart-no x i flags u = go (flagsOk (setupOf (x .config) i) flags) (outside (x .config) i) (x .boxes i .up) u _
   where
     go : (g o p : Bool) → p ≡ true → (a : Answer) → isDone (cond g (cond o NoSuchNode (cond p NotDown a)) OutOfRange) ≡ false
@@ -148,12 +148,12 @@ restart-no x i flags u = go (flagsOk (setupOf (x .config) i) flags) (outside (x 
     go true true p e a = refl
     go true false p e a = ap (λ (t : Bool). isDone (cond t NotDown a)) e
 
-module _ (x : Field) (j : ℕ) (n : x .negotiates ≡ true) (u : x .boxes j .up ≡ true) (v : valid (x .boxes j .area) ≡ true) where
+module _ (x : Fleet) (j : ℕ) (n : x .negotiates ≡ true) (u : x .boxes j .up ≡ true) (v : valid (x .boxes j .area) ≡ true) where
   at-own : (i : ℕ) → i ≡ j → valid (x .boxes i .area) ≡ true
   at-own i e = ap (λ (k : ℕ). valid (x .boxes k .area)) e ∙ v
 
-  settled-next : (e : Event) (left : List ℕ) → within anyone e ≡ true → noCrash j e ≡ true → isDone (fieldAnswer x e) ≡ true
-      → SameReading (x .boxes j) (nextField x e left .boxes j)
+  settled-next : (e : Event) (left : List ℕ) → within anyone e ≡ true → noCrash j e ≡ true → isDone (fleetAnswer x e) ≡ true
+      → SameReading (x .boxes j) (nextFleet x e left .boxes j)
   settled-next (Send i) left w s d = still (x .boxes j)
   settled-next (Hear i p) left w s d = settled-put x i j _ (λ e. settled-hear (x .boxes i .area) (at-own i e) (x .boxes i .up)
       (x .boxes i .out) (packet x p))
@@ -167,12 +167,12 @@ module _ (x : Field) (j : ℕ) (n : x .negotiates ≡ true) (u : x .boxes j .up 
       (λ e. never (sym d ∙ restart-no x i flags (ap (λ (k : ℕ). x .boxes k .up) e ∙ u)))
 
   pub settled-after : (a : Act) → within anyone (a .event) ≡ true → noCrash j (a .event) ≡ true
-      → SameReading (x .boxes j) (fieldAfter x a .boxes j)
-  unfolding fieldAfter
-  settled-after a w s = go (isDone (fieldAnswer x (a .event))) refl
+      → SameReading (x .boxes j) (fleetAfter x a .boxes j)
+  unfolding fleetAfter
+  settled-after a w s = go (isDone (fleetAnswer x (a .event))) refl
     where
-      go : (t : Bool) → isDone (fieldAnswer x (a .event)) ≡ t → SameReading (x .boxes j)
-          (cond t (nextField x (a .event) (a .left)) x .boxes j)
+      go : (t : Bool) → isDone (fleetAnswer x (a .event)) ≡ t → SameReading (x .boxes j)
+          (cond t (nextFleet x (a .event) (a .left)) x .boxes j)
       go true d = settled-next (a .event) (a .left) w s d
       go false d = still (x .boxes j)
 
@@ -191,16 +191,16 @@ module _ (A : Apart) (j : ℕ) (n : A .phases (A .clock j) .negotiates ≡ true)
           → SameReading (boxNow A j) (boxNow (cond t
           (record {
             clock = A .clock;
-            phases = λ s. cond (eqb s (A .clock (actingBox (a .event)))) (fieldAfter (A .phases s) a) (A .phases s);
+            phases = λ s. cond (eqb s (A .clock (actingBox (a .event)))) (fleetAfter (A .phases s) a) (A .phases s);
             log = λ s. cond (eqb s (A .clock (actingBox (a .event)))) (A .log s ++ (a ∷ [])) (A .log s);
-            answers = λ s. cond (eqb s (A .clock (actingBox (a .event)))) (A .answers s ++ (fieldAnswer (A .phases s) (a .event) ∷ []))
+            answers = λ s. cond (eqb s (A .clock (actingBox (a .event)))) (A .answers s ++ (fleetAnswer (A .phases s) (a .event) ∷ []))
                 (A .answers s);
           })
           A) j)
       go false r = still (boxNow A j)
       go true r = at (eqb c (A .clock (actingBox (a .event))))
         where
-          at : (t : Bool) → SameReading (boxNow A j) (cond t (fieldAfter (A .phases c) a) (A .phases c) .boxes j)
+          at : (t : Bool) → SameReading (boxNow A j) (cond t (fleetAfter (A .phases c) a) (A .phases c) .boxes j)
           at true = settled-after (A .phases c) j n u v a (possible-any A (a .event) r) s
           at false = still (boxNow A j)
 

@@ -16,7 +16,7 @@ use Rattle.area.specs.Area.{encoded, decoded, valid}
 use Rattle.host.specs.Calls.{wantingOf, afterWant, afterEnd}
 use Rattle.site.specs.Members.{outside}
 use Rattle.site.specs.declared.Event.the-variants.{Want}
-use Rattle.boxes.specs.field.Field.{Box, Field, Act, boxHolding, change, fieldWant, fieldAfter, closeBox, endBox}
+use Rattle.boxes.specs.fleet.Fleet.{Box, Fleet, Act, boxHolding, change, fleetWant, fleetAfter, closeBox, endBox}
 use Rattle.apart.specs.Apart.{tick, act, Apart, negotiation, lastPhase, boxNow, tickBox, acted, ticked, apartRun}
 use Rattle.apart.proofs.Near.{acted-clock}
 
@@ -28,9 +28,9 @@ end-of s b e u = ap₂ (λ (p q : Bool). cond p (closeBox b) (cond q (endBox b) 
     ∙ ap (λ (t : Bool). cond t (boxHolding b (afterEnd (b .area))) b) u
 
 -- a want of a box that is up: refused or not, the area is what the call leaves
-want-box : (x : Field) (j d : ℕ) → x .boxes j .up ≡ true → outside (x .config) j ≡ false
-    → fieldAfter x (record { event = Want j d; left = [] }) .boxes j ≡ boxHolding (x .boxes j) (afterWant (x .boxes j .area) d)
-unfolding fieldAfter fieldWant afterWant wantingOf
+want-box : (x : Fleet) (j d : ℕ) → x .boxes j .up ≡ true → outside (x .config) j ≡ false
+    → fleetAfter x (record { event = Want j d; left = [] }) .boxes j ≡ boxHolding (x .boxes j) (afterWant (x .boxes j .area) d)
+unfolding fleetAfter fleetWant afterWant wantingOf
 want-box x j d u o = go (outside (x .config) j) (x .boxes j .up) (ltb topRequest d) (valid (b .area)) o u
   where
     b : Box
@@ -61,7 +61,7 @@ module _ (A : Apart) (j : ℕ) (u : boxNow A j .up ≡ true) (o : outside (A .ph
 
   wanted : boxNow (acted A wanting) j ≡ boxHolding (boxNow A j) (afterWant (boxNow A j .area) d)
   unfolding acted
-  wanted = ap (λ (t : Bool). cond t (fieldAfter (A .phases c) wanting) (A .phases c) .boxes j) (eq-eqb c c refl)
+  wanted = ap (λ (t : Bool). cond t (fleetAfter (A .phases c) wanting) (A .phases c) .boxes j) (eq-eqb c c refl)
       ∙ want-box (A .phases c) j d u o
 
   ended : (B : Apart) → B .clock j ≡ c → boxNow B j .up ≡ true → boxNow (ticked B j) j .area ≡ afterEnd (boxNow B j .area)

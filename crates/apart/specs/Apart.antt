@@ -25,7 +25,7 @@ use Rattle.node.specs.declared.Config.{Config}
 use Rattle.site.specs.declared.Table.{Table}
 use Rattle.site.specs.declared.Event.{Event}
 use Rattle.site.specs.declared.Event.the-variants.{Send, Hear, Close, Take, End, Want, Crash, Restart}
-use Rattle.boxes.specs.field.Field.{Box, Field, Act, change, closeBox, endBox, fieldAnswer, fieldAfter, fieldRun, begunField}
+use Rattle.boxes.specs.fleet.Fleet.{Box, Fleet, Act, change, closeBox, endBox, fleetAnswer, fleetAfter, fleetRun, begunFleet}
 
 -- one moment: the clock of box j goes on by one phase, or a box has one of its events
 pub data Step : Type 0 where
@@ -36,7 +36,7 @@ pub data Step : Type 0 where
 -- were done, and their answers
 pub record Apart : Type 0 where
   pub clock : ℕ → ℕ
-  pub phases : ℕ → Field
+  pub phases : ℕ → Fleet
   pub log : ℕ → List Act
   pub answers : ℕ → List Answer
 
@@ -79,9 +79,9 @@ acted A a =
     cond (possible A (a .event))
     (record {
       clock = A .clock;
-      phases = λ s. cond (eqb s (A .clock (actingBox (a .event)))) (fieldAfter (A .phases s) a) (A .phases s);
+      phases = λ s. cond (eqb s (A .clock (actingBox (a .event)))) (fleetAfter (A .phases s) a) (A .phases s);
       log = λ s. cond (eqb s (A .clock (actingBox (a .event)))) (A .log s ++ (a ∷ [])) (A .log s);
-      answers = λ s. cond (eqb s (A .clock (actingBox (a .event)))) (A .answers s ++ (fieldAnswer (A .phases s) (a .event) ∷ []))
+      answers = λ s. cond (eqb s (A .clock (actingBox (a .event)))) (A .answers s ++ (fleetAnswer (A .phases s) (a .event) ∷ []))
           (A .answers s);
     })
     A
@@ -144,7 +144,7 @@ sortedAnswers answers (suc s) = (sortedAnswers answers s ++ betweenAnswers s) ++
 unfoldable pub begunApart : Config → Table → (ℕ → List ℕ) → Apart
 begunApart f t left = record {
   clock = λ j. 0;
-  phases = λ s. fieldRun (begunField f t left) (sorted (λ u. []) s);
+  phases = λ s. fleetRun (begunFleet f t left) (sorted (λ u. []) s);
   log = λ s. [];
   answers = λ s. [];
 }

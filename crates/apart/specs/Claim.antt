@@ -26,17 +26,17 @@ use Rattle.site.specs.Answers.{areaSize}
 use Rattle.site.specs.Members.{memberAt}
 use Rattle.site.specs.Steps.{endMember}
 use Rattle.windows.specs.declared.Window.{Window}
-use Rattle.machine.specs.hours.Hours.{givenMember}
+use Rattle.machine.specs.timed.Timed.{givenMember}
 use Rattle.lookup.specs.Lookup.{demandAnswer, demandAfter}
 use Rattle.boxes.specs.service.Service.{boxMember}
-use Rattle.traces.specs.Reached.{begin}
+use Rattle.histories.specs.Reached.{begin}
 use Rattle.agreement.specs.Demand.{final}
-use Rattle.boxes.specs.field.Field.{Box, Act, zeros, reading, versionIn, boxOwners, slotIn, boxPhase, boxSlots, senderIn, live, sends}
-use Rattle.boxes.specs.field.Field.{fieldAnswers}
-use Rattle.boxes.specs.field.Field.{begunField}
-use Rattle.boxes.specs.field.Claim.{Begins, ReportsAgree, SlotsApart, SlotsAsRead, BoxJustified, SameBoxDetermination, Shows, siteAnswers}
-use Rattle.boxes.specs.field.Claim.{events}
-use Rattle.boxes.specs.field.Claim.{fieldFinal, FieldDemand3}
+use Rattle.boxes.specs.fleet.Fleet.{Box, Act, zeros, reading, versionIn, boxOwners, slotIn, boxPhase, boxSlots, senderIn, live, sends}
+use Rattle.boxes.specs.fleet.Fleet.{fleetAnswers}
+use Rattle.boxes.specs.fleet.Fleet.{begunFleet}
+use Rattle.boxes.specs.fleet.Claim.{Begins, ReportsAgree, SlotsApart, SlotsAsRead, BoxJustified, SameBoxDetermination, Shows, siteAnswers}
+use Rattle.boxes.specs.fleet.Claim.{events}
+use Rattle.boxes.specs.fleet.Claim.{fleetFinal, FieldDemand3}
 use Rattle.apart.specs.Determined.{placeOfPhase, epochOf, startOf, nodeInPhase, Negotiates, Determines, determined}
 use Rattle.apart.specs.Time.{AllInStep, Timetable, AllOnTime, KeepsTime}
 use Rattle.apart.specs.Apart.{Step, tick, act, Apart, negotiation, lastPhase, boxNow, apartAfter, apartRun, sorted, sortedBefore}
@@ -45,14 +45,14 @@ use Rattle.apart.specs.Apart.{sortedAnswers, begunApart}
 -- In each phase that it has come to, each box is byte for byte the box of the sorted list under one shared clock, of which all of
 -- crates/boxes is proved.
 pub record AsOne (f : Config) (t : Table) (left : ℕ → List ℕ) (A : Apart) : Type 0 where
-  pub boxes : (s j : ℕ) → s ≤ A .clock j → A .phases s .boxes j ≡ fieldFinal f t left (sorted (A .log) s) .boxes j
+  pub boxes : (s j : ℕ) → s ≤ A .clock j → A .phases s .boxes j ≡ fleetFinal f t left (sorted (A .log) s) .boxes j
   -- so also at its own start of the phase
-  pub starts : (s j : ℕ) → s ≤ A .clock j → startOf f t left A s j ≡ fieldFinal f t left (sortedBefore (A .log) s) .boxes j
+  pub starts : (s j : ℕ) → s ≤ A .clock j → startOf f t left A s j ≡ fleetFinal f t left (sortedBefore (A .log) s) .boxes j
   -- the number of a phase tells whether it is a negotiation, and its place in the epoch
   pub phase : (s : ℕ) → A .phases s .negotiates ≡ negotiation s
   pub place : (s : ℕ) → A .phases s .place ≡ placeOfPhase f s
   -- each event has the answer that it has in the sorted list
-  pub answers : (s : ℕ) → fieldAnswers (begunField f t left) (sorted (A .log) s) ≡ sortedAnswers (A .answers) s
+  pub answers : (s : ℕ) → fleetAnswers (begunFleet f t left) (sorted (A .log) s) ≡ sortedAnswers (A .answers) s
   pub demand3 : (s : ℕ) → FieldDemand3 f t left (sorted (A .log) s)
 
 -- a box is up as it was, reads the same version, owners and phase, and is told the same own slots

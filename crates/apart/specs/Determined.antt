@@ -10,8 +10,8 @@ use Rattle.node.specs.Model.{Node}
 use Rattle.area.specs.Area.{decoded}
 use Rattle.node.specs.declared.Config.{Config}
 use Rattle.site.specs.declared.Table.{Table}
-use Rattle.boxes.specs.field.Field.{Box, live, begunField}
-use Rattle.boxes.specs.field.Past.{BoxDetermination}
+use Rattle.boxes.specs.fleet.Fleet.{Box, live, begunFleet}
+use Rattle.boxes.specs.fleet.Past.{BoxDetermination}
 use Rattle.apart.specs.Apart.{Apart, negotiation, lastPhase, tickBox}
 
 -- the place f of a phase, and how many epochs have ended before it
@@ -25,7 +25,7 @@ epochOf f (suc s) = cond (lastPhase s) (cond (isLast f (placeOfPhase f s)) (suc 
 
 -- box k as it was at its own start of phase s: as it was begun, or as going on from the phase before left it
 abbrev pub startOf : Config → Table → (ℕ → List ℕ) → Apart → ℕ → ℕ → Box
-startOf f t left A zero k = begunField f t left .boxes k
+startOf f t left A zero k = begunFleet f t left .boxes k
 startOf f t left A (suc s) k = tickBox s (A .phases s .boxes k)
 
 -- the node of box j as it last was in phase s

@@ -1,4 +1,4 @@
 -- Theorems on boxes.
 pub mod guarantee
 pub mod service
-pub mod field
+pub mod fleet

@@ -38,10 +38,10 @@ use Rattle.site.specs.Run.{RunState, run}
 use Rattle.site.specs.Model.{Member}
 use Rattle.site.specs.Model.{Site}
 use Rattle.site.specs.declared.Event.the-variants.{Send, Hear, Close, End}
-use Rattle.traces.specs.Past.{determinedAt, pastAfter, trace}
+use Rattle.histories.specs.Past.{determinedAt, pastAfter, trace}
 use Rattle.agreement.specs.Demand.{determinations}
-use Rattle.traces.specs.Reached.{reached, pastOf}
-use Rattle.calm.specs.Calm.{siteMember, liveIn, liveSet, unwatched, allHeard, watchAfter, watched, Ready, Calm, epochEnd, NobodyJoins}
+use Rattle.histories.specs.Reached.{reached, pastOf}
+use Rattle.recovery.specs.Calm.{siteMember, liveIn, liveSet, unwatched, allHeard, watchAfter, watched, Ready, Calm, epochEnd, NobodyJoins}
 use Rattle.cases.specs.Histories.{area, summary, allTalk, informedThree, aloneConfig, aloneTable, trio, allAt, wholeCase, calmBody}
 use Rattle.cases.specs.Histories.{ship, halves, halvesTalk, pair, pairTable, oneLeft, Histories}
 

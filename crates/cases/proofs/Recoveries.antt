@@ -31,11 +31,11 @@ use Rattle.site.specs.Steps.{sentSite, sentArea, heardSite, closedSite, takenSi
 use Rattle.site.specs.Steps.{siteAfter, areaAfter}
 use Rattle.site.specs.Run.{run}
 use Rattle.site.specs.declared.Event.the-variants.{End}
-use Rattle.traces.specs.Past.{determinedAt, pastAfter, trace}
-use Rattle.traces.specs.Reached.{reached, pastOf}
+use Rattle.histories.specs.Past.{determinedAt, pastAfter, trace}
+use Rattle.histories.specs.Reached.{reached, pastOf}
 use Rattle.node.specs.Begin.{restartAnswer}
 use Rattle.node.specs.Steps.{wantedNode}
-use Rattle.calm.specs.Calm.{siteMember, liveIn, liveSet, unwatched, allHeard, watchAfter, watched, epochEnd, whole}
+use Rattle.recovery.specs.Calm.{siteMember, liveIn, liveSet, unwatched, allHeard, watchAfter, watched, epochEnd, whole}
 use Rattle.cases.specs.Histories.{area, trio, allAt, calmBody, ship, halves}
 use Rattle.cases.specs.Recoveries.{moment, pastThen, strict, twoRounds, foreTalk, aftLost, darkened, threeHold, determinedIn}
 use Rattle.cases.specs.Recoveries.{Recoveries}

@@ -21,8 +21,8 @@ use Rattle.site.specs.Run.{RunState, run}
 use Rattle.site.specs.Model.{Site}
 use Rattle.site.specs.declared.Event.{Event}
 use Rattle.site.specs.declared.Event.the-variants.{End}
-use Rattle.traces.specs.Past.{Past}
-use Rattle.calm.specs.Calm.{siteMember, liveIn, liveSet, unwatched, watched, Suffices, Ready, Calm}
+use Rattle.histories.specs.Past.{Past}
+use Rattle.recovery.specs.Calm.{siteMember, liveIn, liveSet, unwatched, watched, Suffices, Ready, Calm}
 
 -- each live node passes a test
 abbrev pub eachLive : Site → (ℕ → Bool) → Bool

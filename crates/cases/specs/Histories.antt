@@ -17,10 +17,10 @@ use Rattle.site.specs.declared.Table.{Table}
 use Rattle.site.specs.Model.{Site}
 use Rattle.site.specs.declared.Event.{Event}
 use Rattle.site.specs.declared.Event.the-variants.{Send, Hear, Close, Take, End, Crash}
-use Rattle.traces.specs.Past.{Determination}
+use Rattle.histories.specs.Past.{Determination}
 use Rattle.agreement.specs.Demand.{determinations}
-use Rattle.traces.specs.Reached.{reached, pastOf}
-use Rattle.calm.specs.Calm.{liveSet, unwatched, watched, Ready, Calm, epochEnd, NobodyJoins}
+use Rattle.histories.specs.Reached.{reached, pastOf}
+use Rattle.recovery.specs.Calm.{liveSet, unwatched, watched, Ready, Calm, epochEnd, NobodyJoins}
 use Rattle.consensus.specs.Consensus.{informed}
 
 -- a packet area of zeros

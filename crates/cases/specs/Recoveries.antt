@@ -1,5 +1,5 @@
--- Histories in which a site recovers: the hypotheses of the three claims on calm epochs (crates/calm) can be met, also with `heard` 2 and
--- at a site that may split; and a dark site in which an old version stands beside version 1.
+-- Histories in which a site recovers: the hypotheses of the three claims on calm epochs (crate recovery) can be met, also with `heard` 2
+-- and at a site that may split; and a dark site in which an old version stands beside version 1.
 -- Assumes nothing.
 use mathlib.Core.Path.{_≡_}
 use mathlib.Core.List.{List, [], _∷_, _++_, map}
@@ -14,9 +14,9 @@ use Rattle.node.specs.declared.Config.{Config}
 use Rattle.site.specs.Model.{Site}
 use Rattle.site.specs.declared.Event.{Event}
 use Rattle.site.specs.declared.Event.the-variants.{Send, Hear, Close, End, Want, Crash, Restart}
-use Rattle.traces.specs.Past.{Determination, Past}
-use Rattle.traces.specs.Reached.{reached, pastOf, EndsEpoch}
-use Rattle.calm.specs.Calm.{liveSet, unwatched, watched, Ready, Calm, epochEnd, whole, NobodyJoins, SameAsked}
+use Rattle.histories.specs.Past.{Determination, Past}
+use Rattle.histories.specs.Reached.{reached, pastOf, EndsEpoch}
+use Rattle.recovery.specs.Calm.{liveSet, unwatched, watched, Ready, Calm, epochEnd, whole, NobodyJoins, SameAsked}
 use Rattle.cases.specs.Histories.{area, trio, allAt, calmBody, ship, halves}
 
 -- a moment of a history

@@ -6,9 +6,9 @@ use mathlib.Core.Logic.{_⊎_, inl, inr}
 use Prim.Native.Nat.{ℕ, zero, suc, _<_}
 use native.Mathlib.Omega.{arith}
 use lib.ListN.{getD}
-use Rattle.traces.proofs.Tests.{either}
-use Rattle.traces.proofs.Sets.{In, in?, in-lt, same-set}
-use Rattle.traces.proofs.Views.{View, Start, Closed, Good, Filled}
+use Rattle.histories.proofs.Tests.{either}
+use Rattle.histories.proofs.Sets.{In, in?, in-lt, same-set}
+use Rattle.histories.proofs.Views.{View, Start, Closed, Good, Filled}
 
 -- whether two sets share a node below n
 shares : (n a b : ℕ) → ((j : ℕ) × In a j × In b j) ⊎ ((j : ℕ) → j < n → In a j → In b j → ⊥)

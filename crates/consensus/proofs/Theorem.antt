@@ -17,13 +17,13 @@ use Rattle.site.specs.declared.Table.{Table}
 use Rattle.site.specs.declared.Event.{Event}
 use Rattle.site.specs.declared.Event.the-variants.{Close}
 use Rattle.site.proofs.Accepted.{answered, close-accepted}
-use Rattle.traces.specs.Reached.{reached, pastOf}
-use Rattle.traces.proofs.Tests.{either}
-use Rattle.traces.proofs.Sets.{In, in-number}
-use Rattle.traces.proofs.Views.{viewOf, filled}
-use Rattle.traces.proofs.Members.{member}
-use Rattle.traces.proofs.Starts.{startOf, Flagged}
-use Rattle.traces.proofs.Always.{always}
+use Rattle.histories.specs.Reached.{reached, pastOf}
+use Rattle.histories.proofs.Tests.{either}
+use Rattle.histories.proofs.Sets.{In, in-number}
+use Rattle.histories.proofs.Views.{viewOf, filled}
+use Rattle.histories.proofs.Members.{member}
+use Rattle.histories.proofs.Starts.{startOf, Flagged}
+use Rattle.histories.proofs.Always.{always}
 use Rattle.consensus.specs.Consensus.{SameRequests, NoneInCommon, Consistent, Consensus}
 use Rattle.consensus.proofs.Parted.{Alike, parted}
 

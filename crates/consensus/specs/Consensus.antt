@@ -19,7 +19,7 @@ use Rattle.site.specs.declared.Table.{Table}
 use Rattle.site.specs.Model.{Site}
 use Rattle.site.specs.declared.Event.{Event}
 use Rattle.site.specs.declared.Event.the-variants.{Close}
-use Rattle.traces.specs.Reached.{reached, Accepted}
+use Rattle.histories.specs.Reached.{reached, Accepted}
 
 -- no node of M' lacks a request in R': what line 24 asks beside the majority
 abbrev pub informed : Node → Bool

@@ -35,7 +35,7 @@ pub struct RunResult {
 // What a line gives: its answer with the day after it, and what a node reports of it.
 struct LineResult {
     turned: DayAnswer,
-    told: NodeReport,
+    report: NodeReport,
 }
 
 // What a call for C returns, and the number that it writes to `length`.

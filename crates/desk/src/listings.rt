@@ -42,7 +42,7 @@ fn event_report(words: &[u32], bytes: &[u8], area: &[u8], e: Event, v: View) -> 
     ensures { λ r. ⌜ r ≡ eventNodeReport v (store (now (words .entry)) (now (bytes .entry))) (now (area .entry)) e ⌝ }
 {
     match v {
-        View::Refusals => machine::reports::nothing(),
+        View::Refusals => machine::reports::no_report(),
         View::Reasons(j) => machine::reports::node_report(words, bytes, area, e, j),
     }
 }
@@ -73,12 +73,12 @@ fn take_line(
                 answer: Answer::OutOfRange,
                 day,
             },
-            told: machine::reports::nothing(),
+            report: machine::reports::no_report(),
         },
         Parsed::Good(e) => {
-            let told = event_report(words, bytes, area, e, v);
-            let turned = machine::hours::step_tested(words, bytes, area, day, e, w, true);
-            LineResult { turned, told }
+            let report = event_report(words, bytes, area, e, v);
+            let turned = machine::timed::step_tested(words, bytes, area, day, e, w, true);
+            LineResult { turned, report }
         }
     }
 }
@@ -103,7 +103,7 @@ fn put_open(out: &mut [u8], at: usize, v: View, n: u32) -> usize
         v,
         n,
         Answer::OutOfRange,
-        machine::reports::nothing(),
+        machine::reports::no_report(),
     )
 }
 
@@ -154,9 +154,9 @@ fn run(
                     v,
                 );
                 let turned = r.turned;
-                let told = r.told;
+                let report = r.report;
                 let a = turned.answer;
-                pos = put_line(out, pos, v, n, a, told);
+                pos = put_line(out, pos, v, n, a, report);
                 day = turned.day;
                 at = e + 1;
             }
@@ -249,7 +249,7 @@ fn print_run(
     // The site's storage: machine::WORDS and machine::BYTES.
     let mut words = [0u32; 262];
     let mut bytes = [0u8; 24769];
-    let loaded = machine::hours::load(&mut words, &mut bytes, config, table, day, w);
+    let loaded = machine::timed::load(&mut words, &mut bytes, config, table, day, w);
     let answer = loaded.answer;
     if !node::is_done(answer) {
         return put_refused(out, v, config.split, 0, answer);

@@ -23,8 +23,8 @@ use Rattle.node.specs.declared.Config.{Config}
 use Rattle.site.specs.declared.Table.{Table}
 use Rattle.site.specs.declared.Event.the-variants.{Send}
 use Rattle.windows.specs.declared.Window.{Window}
-use Rattle.machine.specs.hours.Hours.{Timed, timedLoadAnswer, timedAnswer}
-use Rattle.machine.specs.hours.Calls.{Call}
+use Rattle.machine.specs.timed.Timed.{Timed, timedLoadAnswer, timedAnswer}
+use Rattle.machine.specs.timed.Calls.{Call}
 use Rattle.group.specs.Places.{topPlaces, place}
 use Rattle.group.specs.Group.{SiteSlot, Empty, Taken, Group, isNumber, siteSlotOf, packetsIn, ownShare, commonShare, beyond, common}
 use Rattle.group.specs.Group.{ownArea}

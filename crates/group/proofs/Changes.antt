@@ -19,7 +19,7 @@ use Rattle.wire.specs.Layout.{packetSize}
 use Rattle.wire.specs.Reads.{partOf, placed, hasPart}
 use Rattle.wire.proofs.Laws.{other-part, length-placed}
 use Rattle.site.specs.Counts.{packets}
-use Rattle.machine.specs.hours.Calls.{TimedState}
+use Rattle.machine.specs.timed.Calls.{TimedState}
 use Rattle.group.specs.Places.{topPlaces, entry, siteOf, place, placeFilled, freed}
 use Rattle.group.specs.Group.{SiteSlot, Group, isNumber, siteSlotOf, packetsIn, commonShare, beyond, packetPlace}
 use Rattle.group.specs.Fit.{howOften, used, usedBy}

@@ -18,7 +18,7 @@ use Rattle.site.specs.Steps.{sentSite, closedSite}
 use Rattle.node.specs.declared.Config.{Config}
 use Rattle.site.specs.declared.Table.{Table}
 use Rattle.windows.specs.Windows.{listOk}
-use Rattle.machine.specs.hours.Hours.{givenTable, timedLoadAnswer, loadedTimed}
+use Rattle.machine.specs.timed.Timed.{givenTable, timedLoadAnswer, loadedTimed}
 use Rattle.group.specs.Places.{entry, place, freed}
 use Rattle.group.specs.Group.{Empty, Taken, Group, vacant, packetPlace}
 use Rattle.group.specs.Calls.{GroupCall, LoadSite, plainAnswer, isCrowded, answerTo}

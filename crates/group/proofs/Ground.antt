@@ -16,7 +16,7 @@ use Rattle.allotment.specs.Allotment.{total}
 use Rattle.wire.specs.Reads.{partOf}
 use Rattle.site.specs.Counts.{packets}
 use Rattle.site.specs.Answers.{areaSize}
-use Rattle.machine.specs.hours.Calls.{TimedState}
+use Rattle.machine.specs.timed.Calls.{TimedState}
 use Rattle.group.specs.Places.{topPlaces, entry, siteOf}
 use Rattle.group.specs.Group.{SiteSlot, Empty, Taken, Group, isNumber, siteSlotOf, packetsIn, commonShare, beyond, packetPlace}
 use Rattle.group.specs.Fit.{used, usedBy}

@@ -17,12 +17,12 @@ use Rattle.site.specs.declared.Table.{Table}
 use Rattle.site.specs.Model.{Site}
 use Rattle.site.proofs.Counts.{Counts}
 use Rattle.site.proofs.Accepted.{Acts}
-use Rattle.traces.proofs.Members.{live-up}
-use Rattle.traces.proofs.Sound.{Sound, below-32}
-use Rattle.traces.proofs.Always.{always}
+use Rattle.histories.proofs.Members.{live-up}
+use Rattle.histories.proofs.Sound.{Sound, below-32}
+use Rattle.histories.proofs.Always.{always}
 use Rattle.windows.specs.declared.Window.{Window}
-use Rattle.machine.specs.hours.Hours.{givenTable, timedLoadAnswer}
-use Rattle.machine.specs.hours.Calls.{Call}
+use Rattle.machine.specs.timed.Timed.{givenTable, timedLoadAnswer}
+use Rattle.machine.specs.timed.Calls.{Call}
 use Rattle.agreement.specs.daily.Daily.{eventsOfAll, beginBy, finalBy}
 use Rattle.agreement.proofs.daily.Theorem.{daily}
 

@@ -25,7 +25,7 @@ use Rattle.site.specs.declared.Event.the-variants.{Send, Hear, Close, Take, End
 use Rattle.site.proofs.Accepted.{answered, hear-accepted}
 use Rattle.windows.specs.Windows.{listOk}
 use Rattle.windows.specs.declared.Window.{Window}
-use Rattle.machine.specs.hours.Hours.{Timed, epochAfter, nextInDay, givenSite, beginsEpoch, timedAnswer, givenBefore, nextTimed, timedAfter}
+use Rattle.machine.specs.timed.Timed.{Timed, epochAfter, nextInDay, givenSite, beginsEpoch, timedAnswer, givenBefore, nextTimed, timedAfter}
 
 -- two areas, alike in the parts of n packets
 pub record Alike (x y : List ℕ) (n : ℕ) : Type 0 where

@@ -24,8 +24,8 @@ use Rattle.site.specs.Events.{isClose}
 use Rattle.site.specs.declared.Event.{Event}
 use Rattle.site.specs.declared.Event.the-variants.{Send, Hear, Close, Take, End, Want, Crash, Restart}
 use Rattle.windows.specs.declared.Window.{Window}
-use Rattle.machine.specs.hours.Hours.{Timed, timedAnswer, timedAfter}
-use Rattle.machine.specs.hours.Calls.{Call, TimedState, afterCall}
+use Rattle.machine.specs.timed.Timed.{Timed, timedAnswer, timedAfter}
+use Rattle.machine.specs.timed.Calls.{Call, TimedState, afterCall}
 use Rattle.group.specs.Places.{topPlaces, entry, place, placeFilled}
 use Rattle.group.specs.Group.{SiteSlot, Empty, Taken, Group, isNumber, siteSlotOf, packetsIn, packetPlace, ownArea}
 use Rattle.group.specs.Calls.{SiteCall, isSend, plainAnswer, isCrowded, groupAccepts}

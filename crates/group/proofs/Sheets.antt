@@ -19,8 +19,8 @@ use Rattle.site.specs.Events.{isEnd}
 use Rattle.site.specs.Model.{Site}
 use Rattle.site.specs.declared.Event.{Event}
 use Rattle.site.specs.declared.Event.the-variants.{Send, Close}
-use Rattle.machine.specs.hours.Hours.{Timed, timedAfter}
-use Rattle.machine.proofs.hours.Laws.{plain-answer, plain-after}
+use Rattle.machine.specs.timed.Timed.{Timed, timedAfter}
+use Rattle.machine.proofs.timed.Laws.{plain-answer, plain-after}
 use Rattle.group.specs.Group.{SiteSlot, Empty, Taken, Group, isNumber, siteSlotOf, packetsIn, ownShare, commonShare, beyond, common}
 use Rattle.group.specs.Group.{ownArea}
 use Rattle.group.specs.Calls.{GroupCall, SiteCall, isSend, siteSlotAnswer, plainAnswer, isShort, isCrowded, crowded, answerTo}

@@ -24,8 +24,8 @@ use Rattle.site.specs.declared.Event.the-variants.{Send, Hear, Close, Take, End
 use Rattle.site.proofs.Accepted.{Acts, answered, send-accepted, end-accepted}
 use Rattle.site.proofs.Counts.{packets-none, packets-more, area-placed}
 use Rattle.windows.specs.declared.Window.{Window}
-use Rattle.machine.specs.hours.Hours.{Timed, epochAfter, givenSite, beginsEpoch, timedAnswer, givenBefore, nextTimed, timedAfter}
-use Rattle.machine.proofs.hours.Laws.{done-after, plain-answer, plain-after}
+use Rattle.machine.specs.timed.Timed.{Timed, epochAfter, givenSite, beginsEpoch, timedAnswer, givenBefore, nextTimed, timedAfter}
+use Rattle.machine.proofs.timed.Laws.{done-after, plain-answer, plain-after}
 use Rattle.group.specs.Calls.{isSend}
 use Rattle.group.proofs.Lawful.{Lawful}
 

@@ -17,9 +17,9 @@ use Rattle.node.specs.declared.Config.{Config}
 use Rattle.site.specs.declared.Table.{Table}
 use Rattle.site.proofs.Counts.{packets-none}
 use Rattle.windows.specs.declared.Window.{Window}
-use Rattle.machine.specs.hours.Hours.{timedLoadAnswer, loadedTimed, timedAnswer}
-use Rattle.machine.specs.hours.Calls.{Call, TimedState, afterCall, runCalls}
-use Rattle.machine.proofs.hours.Laws.{refused-after}
+use Rattle.machine.specs.timed.Timed.{timedLoadAnswer, loadedTimed, timedAnswer}
+use Rattle.machine.specs.timed.Calls.{Call, TimedState, afterCall, runCalls}
+use Rattle.machine.proofs.timed.Laws.{refused-after}
 use Rattle.agreement.specs.daily.Daily.{beginBy}
 use Rattle.group.specs.Places.{entry}
 use Rattle.group.specs.Group.{SiteSlot, Empty, Taken, Group, isNumber, siteSlotOf}

@@ -17,7 +17,7 @@ use Rattle.site.specs.Answers.{areaSize}
 use Rattle.node.specs.declared.Config.{Config}
 use Rattle.site.specs.declared.Table.{Table}
 use Rattle.windows.specs.declared.Window.{Window}
-use Rattle.machine.specs.hours.Hours.{timedLoadAnswer, timedAnswer}
+use Rattle.machine.specs.timed.Timed.{timedLoadAnswer, timedAnswer}
 use Rattle.agreement.proofs.daily.Theorem.{daily}
 use Rattle.group.specs.Places.{topPlaces, entry, siteOf}
 use Rattle.group.specs.Group.{SiteSlot, Empty, Taken, Group, vacant, isNumber, siteSlotOf, packetsIn, common}

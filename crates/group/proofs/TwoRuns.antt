@@ -17,7 +17,7 @@ use Rattle.site.specs.Answers.{areaSize, siteSend}
 use Rattle.site.specs.Load.{rowOk, tableOk, loadAnswer, loadedMember, loadedSite}
 use Rattle.site.specs.Steps.{sentSite}
 use Rattle.windows.specs.Windows.{listOk}
-use Rattle.machine.specs.hours.Hours.{givenTable, timedLoadAnswer, loadedTimed}
+use Rattle.machine.specs.timed.Timed.{givenTable, timedLoadAnswer, loadedTimed}
 use Rattle.group.specs.Places.{place, freed}
 use Rattle.group.specs.Group.{Empty, Group, vacant, siteSlotOf, packetsIn, ownShare}
 use Rattle.group.specs.Calls.{GroupCall, LoadSite, plainAnswer, isCrowded, answerTo}

@@ -13,8 +13,8 @@ use Rattle.site.specs.Answers.{areaSize}
 use Rattle.node.specs.declared.Config.{Config}
 use Rattle.site.specs.declared.Table.{Table}
 use Rattle.windows.specs.declared.Window.{Window}
-use Rattle.machine.specs.hours.Hours.{timedLoadAnswer}
-use Rattle.machine.specs.hours.Calls.{Call, TimedState, runCalls}
+use Rattle.machine.specs.timed.Timed.{timedLoadAnswer}
+use Rattle.machine.specs.timed.Calls.{Call, TimedState, runCalls}
 use Rattle.agreement.specs.daily.Daily.{beginBy, DailyDemand3}
 use Rattle.desk.specs.listing.Rows.{rowsText}
 use Rattle.group.specs.Group.{SiteSlot, Empty, Taken, Group, vacant, siteSlotOf, packetsIn, ownShare}

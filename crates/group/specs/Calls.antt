@@ -16,8 +16,8 @@ use Rattle.site.specs.declared.Table.{Table}
 use Rattle.site.specs.declared.Event.{Event}
 use Rattle.site.specs.declared.Event.the-variants.{Send, Hear, Close, Take, End, Want, Crash, Restart}
 use Rattle.windows.specs.declared.Window.{Window}
-use Rattle.machine.specs.hours.Hours.{timedLoadAnswer, timedAnswer}
-use Rattle.machine.specs.hours.Calls.{Call}
+use Rattle.machine.specs.timed.Timed.{timedLoadAnswer, timedAnswer}
+use Rattle.machine.specs.timed.Calls.{Call}
 use Rattle.group.specs.Group.{SiteSlot, Empty, Taken, Group, isNumber, siteSlotOf, packetsIn, ownShare, commonShare, common, ownArea}
 
 -- a load of a number, with settings, table, day and windows; and an event of a number, with windows

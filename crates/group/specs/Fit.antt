@@ -14,7 +14,7 @@ use Rattle.wire.specs.Reads.{placed}
 use Rattle.site.specs.Members.{memberAt}
 use Rattle.site.specs.declared.Event.the-variants.{Send}
 use Rattle.windows.specs.declared.Window.{Window}
-use Rattle.machine.specs.hours.Hours.{Timed}
+use Rattle.machine.specs.timed.Timed.{Timed}
 use Rattle.group.specs.Places.{topPlaces, entry, siteOf, place}
 use Rattle.group.specs.Group.{Taken, Group, isNumber, siteSlotOf, packetsIn, commonShare, common, packetPlace}
 use Rattle.group.specs.Calls.{SiteCall, groupAccepts}

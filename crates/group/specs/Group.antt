@@ -10,7 +10,7 @@ use Rattle.allotment.specs.Allotment.{total}
 use Rattle.wire.specs.Layout.{packetSize}
 use Rattle.site.specs.Counts.{packets}
 use Rattle.site.specs.Answers.{areaSize}
-use Rattle.machine.specs.hours.Hours.{Timed}
+use Rattle.machine.specs.timed.Timed.{Timed}
 use Rattle.group.specs.Places.{topPlaces, entry, place}
 
 -- what stands at a number: no site, or a site with its day

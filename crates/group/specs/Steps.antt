@@ -11,8 +11,8 @@ use Rattle.site.specs.Members.{memberAt}
 use Rattle.site.specs.Steps.{stored}
 use Rattle.site.specs.declared.Event.{Event}
 use Rattle.site.specs.declared.Event.the-variants.{Send, Hear, Close, Take, End, Want, Crash, Restart}
-use Rattle.machine.specs.hours.Hours.{Timed, loadedTimed, timedAfter}
-use Rattle.machine.specs.hours.Calls.{Call}
+use Rattle.machine.specs.timed.Timed.{Timed, loadedTimed, timedAfter}
+use Rattle.machine.specs.timed.Calls.{Call}
 use Rattle.group.specs.Places.{entry, place, placeFilled, freed}
 use Rattle.group.specs.Group.{SiteSlot, Empty, Taken, Group, siteSlotOf, packetsIn, ownArea}
 use Rattle.group.specs.Calls.{GroupCall, LoadSite, SiteCall, groupAccepts}

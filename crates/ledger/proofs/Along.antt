@@ -15,14 +15,14 @@ use Rattle.site.specs.Run.{RunState}
 use Rattle.site.specs.Model.{Site}
 use Rattle.site.specs.declared.Event.{Event}
 use Rattle.site.specs.declared.Event.the-variants.{Send, Hear, Close, Take, End, Want, Crash, Restart}
-use Rattle.traces.specs.Past.{Past, noPast, recorded, pastAfter}
+use Rattle.histories.specs.Past.{Past, noPast, recorded, pastAfter}
 use Rattle.windows.specs.declared.Window.{Window}
 use Rattle.machine.specs.Layout.{Store, siteIn}
-use Rattle.machine.specs.hours.Hours.{Timed, epochAfter, givenSite, inLastRound, timedAnswer, givenBefore, nextTimed, timedAfter}
-use Rattle.machine.specs.hours.Calls.{TimedState, afterCall, runCalls}
-use Rattle.machine.specs.hours.Stored.{timedIn}
+use Rattle.machine.specs.timed.Timed.{Timed, epochAfter, givenSite, inLastRound, timedAnswer, givenBefore, nextTimed, timedAfter}
+use Rattle.machine.specs.timed.Calls.{TimedState, afterCall, runCalls}
+use Rattle.machine.specs.timed.Stored.{timedIn}
 use Rattle.machine.specs.declared.Day.{Day}
-use Rattle.machine.proofs.hours.Laws.{done-after}
+use Rattle.machine.proofs.timed.Laws.{done-after}
 use Rattle.agreement.specs.daily.Daily.{pastAfterCall, traceCalls}
 use Rattle.tally.specs.Counting.{firstTally, tallyOk}
 use Rattle.tally.specs.Ends.{tallyAt, talliedSite, tallyAfter}

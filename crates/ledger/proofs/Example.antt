@@ -11,7 +11,7 @@ use Rattle.node.specs.declared.Answer.the-variants.{Done}
 use Rattle.site.specs.Load.{rowOk, tableOk, loadAnswer}
 use Rattle.node.specs.declared.Config.{Config}
 use Rattle.windows.specs.Windows.{listOk}
-use Rattle.machine.specs.hours.Hours.{timedLoadAnswer}
+use Rattle.machine.specs.timed.Timed.{timedLoadAnswer}
 use Rattle.tally.specs.Counting.{firstTally}
 use Rattle.sites.specs.one.Calls.{tableFrom}
 use Rattle.ledger.specs.Ledger.{Made}

@@ -18,12 +18,12 @@ use Rattle.site.specs.declared.Event.{Event}
 use Rattle.node.specs.declared.Config.{Config}
 use Rattle.site.specs.Model.{Site}
 use Rattle.site.specs.declared.Table.{Table}
-use Rattle.traces.specs.Past.{Past, noPast}
+use Rattle.histories.specs.Past.{Past, noPast}
 use Rattle.windows.specs.declared.Window.{Window}
 use Rattle.machine.specs.Layout.{Store}
-use Rattle.machine.specs.hours.Hours.{givenTable, timedLoadAnswer}
-use Rattle.machine.specs.hours.Calls.{Call, TimedState, runCalls}
-use Rattle.machine.proofs.hours.Laws.{loaded-site}
+use Rattle.machine.specs.timed.Timed.{givenTable, timedLoadAnswer}
+use Rattle.machine.specs.timed.Calls.{Call, TimedState, runCalls}
+use Rattle.machine.proofs.timed.Laws.{loaded-site}
 use Rattle.agreement.specs.daily.Daily.{beginBy, eventsOfAll, traceCalls}
 use Rattle.agreement.proofs.daily.Theorem.{plainOf}
 use Rattle.tally.specs.Counting.{firstTally}
@@ -31,7 +31,7 @@ use Rattle.tally.specs.Ends.{tallyAt}
 use Rattle.tally.specs.declared.Tally.{Tally}
 use Rattle.agreement.proofs.accounts.Slots.{Sums, sums-loaded}
 use Rattle.agreement.proofs.accounts.Theorem.{accounts}
-use Rattle.calm.specs.Calm.{liveIn, liveSet, Ready, Calm, whole, Risen}
+use Rattle.recovery.specs.Calm.{liveIn, liveSet, Ready, Calm, whole, Risen}
 use Rattle.lifted.specs.Lifted.{Claim, Everywhere, Agreed, SendsAbove, Heirs, FirstHeirs, Informed, Completes, Rises, Remains, Settles}
 use Rattle.lifted.specs.Lifted as claims
 use Rattle.lifted.proofs.Theorem.{lifts, lifted, calls-append}

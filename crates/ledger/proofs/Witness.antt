@@ -50,12 +50,12 @@ use Rattle.machine.specs.steps.After.{sentStore, heardStore, takenStore, wanted
 use Rattle.machine.specs.steps.After.{storageAnswer}
 use Rattle.machine.specs.steps.After.{storeAfter, siteWith}
 use Rattle.machine.proofs.steps.Follows.{follows}
-use Rattle.machine.specs.hours.Hours.{Timed, firstEpoch, epochAfter, givenSite, givenTable, timedLoadAnswer, loadedTimed}
-use Rattle.machine.specs.hours.Hours.{beginsEpoch, givenBefore, nextTimed}
-use Rattle.machine.specs.hours.Stored.{timedIn, givenAt, givenStore, storedAnswer, begunStore, timedStore}
+use Rattle.machine.specs.timed.Timed.{Timed, firstEpoch, epochAfter, givenSite, givenTable, timedLoadAnswer, loadedTimed}
+use Rattle.machine.specs.timed.Timed.{beginsEpoch, givenBefore, nextTimed}
+use Rattle.machine.specs.timed.Stored.{timedIn, givenAt, givenStore, storedAnswer, begunStore, timedStore}
 use Rattle.machine.specs.declared.Day.{Day}
-use Rattle.machine.proofs.hours.Laws.{loaded-site, done-after}
-use Rattle.machine.proofs.hours.Stored.{Long, given-store}
+use Rattle.machine.proofs.timed.Laws.{loaded-site, done-after}
+use Rattle.machine.proofs.timed.Stored.{Long, given-store}
 use Rattle.tally.specs.Ends.{talliedAnswer}
 use Rattle.tally.specs.declared.Tally.{Tally}
 use Rattle.machine.specs.turn.Kept.{Kept, firstRefusal, keptAnswer}

@@ -11,14 +11,14 @@ use Rattle.site.specs.Run.{RunState}
 use Rattle.node.specs.declared.Config.{Config}
 use Rattle.site.specs.Model.{Site}
 use Rattle.site.specs.declared.Event.{Event}
-use Rattle.traces.specs.Past.{Past, noPast}
+use Rattle.histories.specs.Past.{Past, noPast}
 use Rattle.windows.specs.declared.Window.{Window}
 use Rattle.machine.specs.Layout.{Store, store}
-use Rattle.machine.specs.hours.Calls.{TimedState, runCalls}
+use Rattle.machine.specs.timed.Calls.{TimedState, runCalls}
 use Rattle.agreement.specs.daily.Daily.{beginBy, eventsOfAll}
 use Rattle.tally.specs.Counting.{firstTally}
 use Rattle.tally.specs.declared.Tally.{Tally}
-use Rattle.calm.specs.Calm.{liveIn, liveSet, Ready, Calm, whole, Risen}
+use Rattle.recovery.specs.Calm.{liveIn, liveSet, Ready, Calm, whole, Risen}
 use Rattle.lifted.specs.Lifted.{Claim, Agreed, Informed, Completes, Rises, Remains, Settles, SendsAbove, Heirs, FirstHeirs}
 use Rattle.script.specs.events.Events.{eventAt}
 use Rattle.script.specs.declared.Parsed.{Parsed}

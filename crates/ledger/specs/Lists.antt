@@ -11,10 +11,10 @@ use Rattle.site.specs.Answers.{answerOf}
 use Rattle.site.specs.Events.{isEnd}
 use Rattle.site.specs.Model.{Site}
 use Rattle.site.specs.declared.Event.{Event}
-use Rattle.traces.specs.Past.{Past, noPast, recorded}
+use Rattle.histories.specs.Past.{Past, noPast, recorded}
 use Rattle.windows.specs.declared.Window.{Window}
-use Rattle.machine.specs.hours.Hours.{inLastRound}
-use Rattle.machine.specs.hours.Calls.{Call}
+use Rattle.machine.specs.timed.Timed.{inLastRound}
+use Rattle.machine.specs.timed.Calls.{Call}
 use Rattle.tally.specs.Claims.{sum}
 use Rattle.tally.specs.Counting.{topEpochs, firstTally, slotsAt, heldAt, tallyOk}
 use Rattle.tally.specs.Ends.{talliedAnswer}

@@ -15,18 +15,18 @@ use Rattle.site.specs.Model.{Site}
 use Rattle.site.specs.declared.Event.{Event}
 use Rattle.site.specs.declared.Event.the-variants.{End}
 use Rattle.site.proofs.Accepted.{answered}
-use Rattle.traces.specs.Past.{noPast, trace}
-use Rattle.traces.specs.Reached.{begin, reached, pastOf, Accepted}
+use Rattle.histories.specs.Past.{noPast, trace}
+use Rattle.histories.specs.Reached.{begin, reached, pastOf, Accepted}
 use Rattle.agreement.proofs.Theorem.{holds}
 use Rattle.agreement.proofs.Succession.{succeeds}
 use Rattle.consensus.proofs.Theorem.{consensus}
-use Rattle.calm.specs.Calm.{whole, epochEnd, Risen}
-use Rattle.calm.proofs.Theorem.{recovery}
+use Rattle.recovery.specs.Calm.{whole, epochEnd, Risen}
+use Rattle.recovery.proofs.Theorem.{recovery}
 use Rattle.windows.specs.Windows.{listOk}
 use Rattle.windows.specs.declared.Window.{Window}
-use Rattle.machine.specs.hours.Hours.{givenSite, givenTable, timedLoadAnswer, loadedTimed}
-use Rattle.machine.specs.hours.Calls.{Call, TimedState, afterCall, runCalls}
-use Rattle.machine.proofs.hours.Laws.{loaded-site}
+use Rattle.machine.specs.timed.Timed.{givenSite, givenTable, timedLoadAnswer, loadedTimed}
+use Rattle.machine.specs.timed.Calls.{Call, TimedState, afterCall, runCalls}
+use Rattle.machine.proofs.timed.Laws.{loaded-site}
 use Rattle.agreement.specs.daily.Daily.{wantsOf, eventsOfAll, beginBy, finalBy, traceCalls}
 use Rattle.agreement.proofs.daily.Wants.{run-append, trace-append, wants-all, wants-past}
 use Rattle.agreement.proofs.daily.Theorem.{plainOf, same-all, long-loaded, long-run, plain}

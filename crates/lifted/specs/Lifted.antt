@@ -19,17 +19,17 @@ use Rattle.node.specs.declared.Config.{Config}
 use Rattle.site.specs.declared.Table.{Table}
 use Rattle.site.specs.declared.Event.{Event}
 use Rattle.site.specs.declared.Event.the-variants.{Close, End}
-use Rattle.traces.specs.Past.{Determination, Past, noPast, trace}
-use Rattle.traces.specs.Reached.{reached, pastOf, Accepted, liveAfter, nodeAfter, EndsEpoch}
+use Rattle.histories.specs.Past.{Determination, Past, noPast, trace}
+use Rattle.histories.specs.Reached.{reached, pastOf, Accepted, liveAfter, nodeAfter, EndsEpoch}
 use Rattle.agreement.specs.Demand.{Agreement, Justified, SameDetermination}
 use Rattle.agreement.specs.Succession.{Heir, FirstHeir}
 use Rattle.consensus.specs.Consensus.{Knows, Consistent}
-use Rattle.calm.specs.Calm.{siteMember, liveIn, liveSet, requestsOf, unwatched, watched, Ready, Calm, epochEnd, whole, Risen, NobodyJoins}
-use Rattle.calm.specs.Calm.{SameAsked}
+use Rattle.recovery.specs.Calm.{siteMember, liveIn, liveSet, requestsOf, unwatched, watched, Ready, Calm, epochEnd, whole, Risen}
+use Rattle.recovery.specs.Calm.{NobodyJoins, SameAsked}
 use Rattle.windows.specs.Windows.{listOk}
 use Rattle.windows.specs.declared.Window.{Window}
-use Rattle.machine.specs.hours.Hours.{givenSite, timedLoadAnswer, loadedTimed}
-use Rattle.machine.specs.hours.Calls.{Call, runCalls}
+use Rattle.machine.specs.timed.Timed.{givenSite, timedLoadAnswer, loadedTimed}
+use Rattle.machine.specs.timed.Calls.{Call, runCalls}
 use Rattle.agreement.specs.daily.Daily.{beginBy, finalBy, eventsOfAll, traceCalls}
 use Rattle.group.specs.Group.{Taken, vacant, siteSlotOf}
 use Rattle.group.specs.Calls.{GroupCall, LoadSite, answerTo}

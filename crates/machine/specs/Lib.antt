@@ -5,6 +5,6 @@ pub mod Acts
 pub mod Inner
 pub mod Loading
 pub mod steps
-pub mod hours
+pub mod timed
 pub mod reports
 pub mod turn

@@ -2,14 +2,13 @@
 ghost use mathlib.Core.Path.{_≡_};
 ghost use Prim.Native.Nat.{min};
 ghost use Prim.Native.Nat.{_<_};
-ghost use Rattle.machine.specs.hours.Hours.{nextInDay};
+ghost use Rattle.machine.specs.timed.Timed.{nextInDay};
 ghost use lib.ListN.{length};
 
 mod acts;
 mod answers;
 mod epochs;
 mod events;
-pub mod hours;
 mod layout;
 mod load;
 mod look;
@@ -18,6 +17,7 @@ mod read;
 pub mod reports;
 pub mod steps;
 mod steps_read;
+pub mod timed;
 pub mod turn;
 mod write;
 
@@ -29,7 +29,7 @@ pub use acts::want;
 pub use layout::BYTES;
 pub use layout::SENT;
 pub use layout::WORDS;
-pub use load::fresh;
+pub use load::begin_site;
 pub use look::core;
 pub use look::header;
 pub use look::is_live;
@@ -90,7 +90,7 @@ pub struct NodeReport {
 
 // What each of the nodes reports.
 pub struct Report {
-    pub told: [NodeReport; 32],
+    pub nodes: [NodeReport; 32],
 }
 
 // An answer's number with the day and the tally after it; after a refusal they are as they were.

@@ -66,7 +66,7 @@ fn put_nodes(words: &mut [u32], bytes: &mut [u8], f: Config, t: Table)
 }
 
 // A site just loaded, whatever the figures and the table. Refused as 15 where words or bytes are too few.
-pub fn fresh(words: &mut [u32], bytes: &mut [u8], f: Config, t: Table) -> Answer
+pub fn begin_site(words: &mut [u32], bytes: &mut [u8], f: Config, t: Table) -> Answer
     ensures { λ r. ⌜ r ≡ loadingAnswer (store (now (words .entry)) (now (bytes .entry))) ⌝ }
     ensures { λ _. ⌜ now (words .exit) ≡ loadedStore (store (now (words .entry)) (now (bytes .entry))) f t .words ⌝ }
     ensures { λ _. ⌜ now (bytes .exit) ≡ loadedStore (store (now (words .entry)) (now (bytes .entry))) f t .bytes ⌝ }

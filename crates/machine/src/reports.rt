@@ -16,7 +16,7 @@ use site::Event;
 pub const SIZE: usize = 64;
 
 // A node that reports nothing.
-pub fn nothing() -> NodeReport
+pub fn no_report() -> NodeReport
     ensures { λ r. ⌜ r ≡ noNodeReport ⌝ }
 {
     NodeReport {
@@ -37,7 +37,7 @@ fn tell(words: &[u32], bytes: &[u8], j: u32) -> NodeReport
         let ground = c.ground();
         return NodeReport { live: true, ground };
     }
-    nothing()
+    no_report()
 }
 
 // Whether an event, were it the next one, would be an accepted close.
@@ -55,7 +55,7 @@ pub fn node_report(words: &[u32], bytes: &[u8], area: &[u8], e: Event, j: u32) -
     ensures { λ r. ⌜ r ≡ nodeReportIn (store (now (words .entry)) (now (bytes .entry))) (now (area .entry)) e j ⌝ }
 {
     if !reports(words, bytes, area, e) {
-        return nothing();
+        return no_report();
     }
     tell(words, bytes, j)
 }
@@ -65,12 +65,12 @@ fn tell_all(words: &[u32], bytes: &[u8]) -> Report
     requires { ⌜ tooShort (store (now words) (now bytes)) ≡ false ⌝ }
     ensures { λ r. ⌜ r ≡ reportOf true (siteIn (store (now (words .entry)) (now (bytes .entry))) .members) ⌝ }
 {
-    let none = nothing();
-    let mut told = [none; 32];
+    let none = no_report();
+    let mut nodes = [none; 32];
     for i in 0..32usize {
-        told[i] = tell(words, bytes, i as u32 + 1);
+        nodes[i] = tell(words, bytes, i as u32 + 1);
     }
-    Report { told }
+    Report { nodes }
 }
 
 // Of the two bytes of a node the one at k: the rule's number, or the lowest missing node.
@@ -92,10 +92,10 @@ fn report_byte(t: NodeReport, k: usize) -> u8
 fn report_bytes(r: Report) -> [u8; 64]
     ensures { λ l. ⌜ l ≡ reportBytes r ⌝ }
 {
-    let told = r.told;
+    let nodes = r.nodes;
     let mut l = [0u8; 64];
     for k in 0..64usize {
-        let t = told[k / 2];
+        let t = nodes[k / 2];
         l[k] = report_byte(t, k % 2);
     }
     l

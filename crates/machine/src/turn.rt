@@ -42,7 +42,7 @@ pub fn first_of(a: Answer, b: Answer) -> Answer
     a
 }
 
-// What an end has against its tally, and any other event against its list; `hours` tests the list of an end.
+// What an end has against its tally, and any other event against its list; `timed` tests the list of an end.
 fn objection(words: &[u32], bytes: &[u8], day: Day, e: Event, w: &[u32], t: Tally) -> Answer
     requires { ⌜ (wordsSize ≤ length (now words)) × (bytesSize ≤ length (now bytes)) ⌝ }
     ensures { λ r. ⌜ r ≡ objection (keptIn (store (now (words .entry)) (now (bytes .entry))) day [] t) (windowsIn (now (w .entry))) e ⌝ }
@@ -115,7 +115,7 @@ pub fn step(
         };
     }
     crate::reports::put(words, bytes, area, e, out);
-    let r = crate::hours::step(words, bytes, area, day, e, w);
+    let r = crate::timed::step(words, bytes, area, day, e, w);
     let a = r.answer;
     let next = r.day;
     let tally = tally_behind(words, bytes, e, a, t);

@@ -11,7 +11,7 @@ use lib.Dec.{eqb}
 use lib.ListN.{length, drop, length-append}
 use Rattle.text.specs.Read.{split}
 use Rattle.node.specs.declared.Answer.the-variants.{OutOfRange}
-use Rattle.machine.specs.hours.Calls.{TimedState}
+use Rattle.machine.specs.timed.Calls.{TimedState}
 use Rattle.site.specs.Model.{Site}
 use Rattle.script.specs.events.Events.{eventOf}
 use Rattle.script.specs.lines.Lines.{lineAt}

@@ -9,7 +9,7 @@ use lib.Dec.{eqb, leb, ltb}
 use lib.ListN.{length, getD, drop}
 use Rattle.text.specs.Read.{split}
 use Rattle.site.specs.Model.{Site}
-use Rattle.machine.specs.hours.Calls.{TimedState}
+use Rattle.machine.specs.timed.Calls.{TimedState}
 use Rattle.script.specs.events.Events.{eventOf}
 use Rattle.script.proofs.lines.Lines.{Whole}
 use Rattle.reduce.specs.Reduced.{gives}

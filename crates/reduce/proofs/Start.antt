@@ -15,10 +15,10 @@ use Rattle.windows.specs.Copies.{windowsIn}
 use Rattle.windows.specs.declared.Window.{Window}
 use Rattle.windows.proofs.Copies.{no-words}
 use Rattle.machine.specs.Layout.{Store, siteIn}
-use Rattle.machine.specs.hours.Hours.{Timed}
-use Rattle.machine.specs.hours.Stored.{storedLoad, timedLoadedSite}
+use Rattle.machine.specs.timed.Timed.{Timed}
+use Rattle.machine.specs.timed.Stored.{storedLoad, timedLoadedSite}
 use Rattle.machine.specs.declared.DayAnswer.{DayAnswer}
-use Rattle.machine.proofs.hours.Stored.{as-load, as-begun}
+use Rattle.machine.proofs.timed.Stored.{as-load, as-begun}
 use Rattle.script.specs.declared.ScriptHead.{ScriptHead}
 use Rattle.desk.specs.listings.Inner.{runStateIn, openingOf}
 use Rattle.desk.proofs.listings.Parts.{zeros, zeros-long}

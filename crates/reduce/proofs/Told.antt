@@ -13,7 +13,7 @@ use Rattle.words.proofs.Tests.{hit, skip, or-neither}
 use Rattle.text.specs.Read.{split}
 use Rattle.node.specs.declared.Answer.the-variants.{Done, OutOfRange, NoRoom, NotGiven}
 use Rattle.site.specs.Answers.{areaSize}
-use Rattle.machine.specs.hours.Calls.{TimedState}
+use Rattle.machine.specs.timed.Calls.{TimedState}
 use Rattle.script.specs.events.Events.{eventOf}
 use Rattle.script.specs.load.Opening.{Reading, refused, got, Opening, opening}
 use Rattle.desk.specs.listing.Rows.{firstHead, refusalLine, rowsText}

@@ -14,7 +14,7 @@ use Rattle.node.specs.Answers.{number}
 use Rattle.node.specs.declared.Answer.{Answer}
 use Rattle.node.specs.declared.Answer.the-variants.{Done, NoRoom, NotGiven}
 use Rattle.site.specs.Answers.{areaSize}
-use Rattle.machine.specs.hours.Calls.{TimedState}
+use Rattle.machine.specs.timed.Calls.{TimedState}
 use Rattle.script.specs.load.Opening.{Reading, refused, got, Opening, opening, linesStart}
 use Rattle.desk.specs.listings.Output.{topScript, loadedState}
 use Rattle.reduce.specs.Reduced.{linesIn, joinedLines, TextLine, isRefusal, gives, Reduced}

@@ -10,7 +10,7 @@ use lib.ListN.{length, getD, set, drop}
 use Rattle.lists.specs.All.{iter}
 use Rattle.node.specs.declared.Answer.the-variants.{Done}
 use Rattle.site.specs.Load.{loadAnswer}
-use Rattle.machine.specs.hours.Calls.{TimedState}
+use Rattle.machine.specs.timed.Calls.{TimedState}
 use Rattle.text.specs.Read.{split}
 use Rattle.script.specs.load.Opening.{opening, configRead, scriptHeadOf, readBack}
 use Rattle.script.specs.declared.ScriptHead.{ScriptHead}

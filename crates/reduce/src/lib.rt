@@ -84,7 +84,7 @@ fn take_line(
             day,
         },
         Parsed::Good(e) => {
-            let r = machine::hours::step(words, bytes, area, day, e, &[]);
+            let r = machine::timed::step(words, bytes, area, day, e, &[]);
             let a = r.answer;
             let next = r.day;
             TrialStep {
@@ -301,7 +301,7 @@ fn kept_gives(script: &[u8], o: ScriptHead, marks: &[u8], lo: usize, hi: usize, 
     let mut words = [0u32; WORDS];
     let mut bytes = [0u8; BYTES];
     let mut area = [0u8; 11520];
-    let loaded = machine::hours::load(&mut words, &mut bytes, config, table, 1, &[]);
+    let loaded = machine::timed::load(&mut words, &mut bytes, config, table, 1, &[]);
     let start = loaded.day;
     run_gives(
         script,
@@ -486,7 +486,7 @@ fn scan_ranges(script: &[u8], o: ScriptHead, marks: &mut [u8], from: usize, c: u
     let mut words = [0u32; WORDS];
     let mut bytes = [0u8; BYTES];
     let mut area = [0u8; 11520];
-    let loaded = machine::hours::load(&mut words, &mut bytes, config, table, 1, &[]);
+    let loaded = machine::timed::load(&mut words, &mut bytes, config, table, 1, &[]);
     let start = loaded.day;
     scan_from(
         script,

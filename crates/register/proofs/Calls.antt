@@ -11,7 +11,7 @@ use Rattle.node.specs.declared.Answer.{Answer}
 use Rattle.node.specs.declared.Answer.the-variants.{NoSuchNode, NoRoom, OutOfRange}
 use Rattle.node.specs.declared.Config.{Config}
 use Rattle.windows.specs.declared.Window.{Window}
-use Rattle.machine.specs.hours.Hours.{timedLoadAnswer}
+use Rattle.machine.specs.timed.Timed.{timedLoadAnswer}
 use Rattle.tally.specs.declared.Tally.{Tally}
 use Rattle.script.specs.events.Events.{eventAt}
 use Rattle.script.specs.declared.Parsed.{Parsed}

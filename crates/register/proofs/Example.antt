@@ -16,7 +16,7 @@ use Rattle.site.specs.Load.{rowOk, tableOk, loadAnswer, loadedMember, loadedSit
 use Rattle.site.specs.Steps.{wantedSite}
 use Rattle.site.specs.declared.Event.the-variants.{Want}
 use Rattle.windows.specs.Windows.{listOk, dueAt, hasWindows}
-use Rattle.machine.specs.hours.Hours.{givenTable, timedLoadAnswer, loadedTimed}
+use Rattle.machine.specs.timed.Timed.{givenTable, timedLoadAnswer, loadedTimed}
 use Rattle.machine.specs.turn.Kept.{firstRefusal, keptAnswer}
 use Rattle.agreement.specs.daily.Daily.{beginBy}
 use Rattle.tally.specs.Counting.{firstTally}

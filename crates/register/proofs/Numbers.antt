@@ -18,8 +18,8 @@ use Rattle.site.specs.Events.{isEnd}
 use Rattle.site.specs.declared.Event.{Event}
 use Rattle.node.specs.declared.Config.{Config}
 use Rattle.windows.specs.declared.Window.{Window}
-use Rattle.machine.specs.hours.Hours.{Timed, timedAnswer}
-use Rattle.machine.specs.hours.Calls.{Call, TimedState, afterCall, runCalls}
+use Rattle.machine.specs.timed.Timed.{Timed, timedAnswer}
+use Rattle.machine.specs.timed.Calls.{Call, TimedState, afterCall, runCalls}
 use Rattle.agreement.specs.daily.Daily.{beginBy}
 use Rattle.tally.specs.Ends.{tallyAt}
 use Rattle.tally.specs.declared.Tally.{Tally}

@@ -26,9 +26,9 @@ use Rattle.machine.specs.Layout.{Store, wordsSize, bytesSize, tooShort, configI
 use Rattle.machine.proofs.Whole.{enough, as-member}
 use Rattle.windows.specs.Windows.{listOk}
 use Rattle.windows.specs.declared.Window.{Window}
-use Rattle.machine.specs.hours.Hours.{Timed, timedAnswer, timedAfter, timedLoadAnswer}
-use Rattle.machine.specs.hours.Calls.{TimedState}
-use Rattle.machine.specs.hours.Stored.{timedIn}
+use Rattle.machine.specs.timed.Timed.{Timed, timedAnswer, timedAfter, timedLoadAnswer}
+use Rattle.machine.specs.timed.Calls.{TimedState}
+use Rattle.machine.specs.timed.Stored.{timedIn}
 use Rattle.machine.specs.declared.Day.{Day}
 use Rattle.tally.specs.Counting.{tallyOk}
 use Rattle.tally.specs.Ends.{talliedAnswer, tallyAt}

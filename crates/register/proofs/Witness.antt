@@ -37,10 +37,10 @@ use Rattle.machine.proofs.Back.{length-row, length-front}
 use Rattle.machine.proofs.Loads.{filled-site}
 use Rattle.machine.proofs.Whole.{enough}
 use Rattle.windows.specs.declared.Window.{Window}
-use Rattle.machine.specs.hours.Hours.{Timed, givenTable, timedLoadAnswer, timedAnswer, nextTimed, timedAfter}
-use Rattle.machine.specs.hours.Calls.{TimedState, runCalls}
-use Rattle.machine.specs.hours.Stored.{storedLoadAnswer, timedLoadedStore, timedLoadedSite}
-use Rattle.machine.proofs.hours.Laws.{loaded-site}
+use Rattle.machine.specs.timed.Timed.{Timed, givenTable, timedLoadAnswer, timedAnswer, nextTimed, timedAfter}
+use Rattle.machine.specs.timed.Calls.{TimedState, runCalls}
+use Rattle.machine.specs.timed.Stored.{storedLoadAnswer, timedLoadedStore, timedLoadedSite}
+use Rattle.machine.proofs.timed.Laws.{loaded-site}
 use Rattle.tally.specs.Counting.{firstTally}
 use Rattle.tally.specs.declared.Tally.{Tally}
 use Rattle.machine.specs.turn.Kept.{firstRefusal}

@@ -33,7 +33,7 @@ sentSite s j = record {
 }
 
 -- a packet in the part of an index, and no other byte changed; an area without that part stays as it was, which no list of events comes to
--- (crates/traces, Counted)
+-- (crates/histories, Counted)
 abbrev pub stored : List ℕ → ℕ → Packet → List ℕ
 stored area index p = cond (hasPart area index) (placed area index p) area
 

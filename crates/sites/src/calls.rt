@@ -6,7 +6,7 @@ ghost use lib.ListN.{length};
 ghost use Rattle.node.specs.Answers.{number};
 ghost use Rattle.machine.specs.Layout.{wordsSize, bytesSize, siteIn};
 ghost use Rattle.windows.specs.Copies.{windowsIn};
-ghost use Rattle.machine.specs.hours.Stored.{storedLoadAnswer, timedLoadedStore, timedLoadedSite};
+ghost use Rattle.machine.specs.timed.Stored.{storedLoadAnswer, timedLoadedStore, timedLoadedSite};
 ghost use Rattle.group.specs.Places.{topPlaces};
 ghost use Rattle.sites.specs.one.Calls.{showing, outNode};
 ghost use Rattle.sites.specs.many.Memory.{memory, lent, tableSize, storeAt};
@@ -60,7 +60,7 @@ pub(crate) fn load_at(
     let to = from + WORDS;
     let low = BYTES * i;
     let high = low + BYTES;
-    let r = machine::hours::load(&mut words[from..to], &mut bytes[low..high], f, t, epochs, w);
+    let r = machine::timed::load(&mut words[from..to], &mut bytes[low..high], f, t, epochs, w);
     let answer = r.answer;
     if !node::is_done(answer) {
         return node::code(answer);

@@ -76,7 +76,7 @@ pub(crate) fn load(
     if rows.len() != 3 * (f.nodes as usize) {
         return Answer::OutOfRange;
     }
-    let r = machine::hours::load(words, bytes, f, table_of(rows), length, w);
+    let r = machine::timed::load(words, bytes, f, table_of(rows), length, w);
     let a = r.answer;
     if !node::is_done(a) {
         return a;

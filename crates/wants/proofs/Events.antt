@@ -21,7 +21,7 @@ use Rattle.node.specs.declared.Config.{Config}
 use Rattle.site.specs.declared.Table.{Table}
 use Rattle.site.specs.declared.Event.{Event}
 use Rattle.site.proofs.Accepted.{Loads, load-accepted}
-use Rattle.traces.specs.Reached.{begin}
+use Rattle.histories.specs.Reached.{begin}
 use Rattle.wants.specs.Outline.{MemberOutline, memberOutline}
 use Rattle.wants.specs.Wants.{withoutWants, SameButWants, SameReports}
 use Rattle.wants.proofs.Maps.{map-tab}

@@ -27,10 +27,10 @@ use Rattle.site.specs.Answers.{siteSend, answerPart, siteHear, siteClose, siteW
 use Rattle.site.specs.Steps.{sentSite, sentArea, heardSite, closedSite, wantedSite, siteAfter, areaAfter}
 use Rattle.site.specs.Run.{run}
 use Rattle.machine.specs.reports.Reports.{memberReport, reportOf}
-use Rattle.traces.specs.Reached.{begin}
+use Rattle.histories.specs.Reached.{begin}
 use Rattle.windows.specs.Windows.{listOk, hasWindows, demandAt, dueAt}
-use Rattle.machine.specs.hours.Hours.{givenTable, timedLoadAnswer, loadedTimed, timedAnswer, nextTimed, timedAfter}
-use Rattle.machine.specs.hours.Calls.{runCalls}
+use Rattle.machine.specs.timed.Timed.{givenTable, timedLoadAnswer, loadedTimed, timedAnswer, nextTimed, timedAfter}
+use Rattle.machine.specs.timed.Calls.{runCalls}
 use Rattle.agreement.specs.daily.Daily.{beginBy}
 use Rattle.wants.specs.Wants.{withoutWants, SameButWants, closeReports, reportsBy, goodLists}
 use Rattle.wants.specs.Example.{area, pair, wanting, talk, wantingTalk, exampleWindows, lentCalls, rulesIn, owners, Example}

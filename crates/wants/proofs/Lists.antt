@@ -21,10 +21,10 @@ use Rattle.site.specs.Model.{Site}
 use Rattle.site.specs.declared.Event.{Event}
 use Rattle.site.specs.declared.Event.the-variants.{Send, Hear, Close, Take, End, Want, Crash, Restart}
 use Rattle.machine.specs.declared.Report.{Report}
-use Rattle.traces.specs.Reached.{begin}
-use Rattle.traces.specs.Hearing.{plainHear}
-use Rattle.traces.proofs.Sound.{Sound, load-sound}
-use Rattle.traces.proofs.Once.{heard}
+use Rattle.histories.specs.Reached.{begin}
+use Rattle.histories.specs.Hearing.{plainHear}
+use Rattle.histories.proofs.Sound.{Sound, load-sound}
+use Rattle.histories.proofs.Once.{heard}
 use Rattle.agreement.proofs.daily.Wants.{run-append}
 use Rattle.wants.specs.Wants.{isWant, prependedIf, withoutWants, closeReports, answers}
 use Rattle.wants.proofs.Scenes.{Scene, sceneOf, nextBy, answerBy, afterBy, sceneAfter, reportsIn, answersIn}

@@ -32,7 +32,7 @@ use Rattle.script.specs.lines.Fields.{twoOf, threeOf, fourOf, fiveOf}
 use Rattle.script.specs.load.Opening.{got, opening, namesLine, settingsLine, tableLines}
 use Rattle.script.specs.events.Events.{numberFrom, fieldsOf}
 use Rattle.windows.specs.Windows.{listOk, hasWindows, demandAt, dueAt}
-use Rattle.machine.specs.hours.Hours.{givenTable, timedLoadAnswer, loadedTimed, timedAnswer, nextTimed, timedAfter}
+use Rattle.machine.specs.timed.Timed.{givenTable, timedLoadAnswer, loadedTimed, timedAnswer, nextTimed, timedAfter}
 use Rattle.desk.specs.listings.Output.{loadedState, dayFits, unfit, splitTold}
 use Rattle.desk.specs.listings.Why.{reasonLines, refusalPart, headPart, whyBody, whyOf}
 use Rattle.desk.specs.reasons.Reasons.{reason, reasonOf}

@@ -27,7 +27,7 @@ use Rattle.site.specs.declared.Event.the-variants.{Send, Hear, Close, Take, End
 use Rattle.machine.specs.reports.Reports.{noNodeReport, closesWith}
 use Rattle.machine.specs.declared.NodeReport.{NodeReport}
 use Rattle.machine.specs.declared.Report.{Report}
-use Rattle.traces.proofs.Sound.{noPacket}
+use Rattle.histories.proofs.Sound.{noPacket}
 use Rattle.node.specs.Outline.{outlineOf}
 use Rattle.wants.specs.Outline.{MemberOutline, memberOutline, SiteOutline, siteOutline}
 use Rattle.wants.specs.Wants.{isWant, prependedIf}
@@ -162,7 +162,7 @@ unfoldable pub toldFor : Bool → MemberOutline → NodeReport
 toldFor accepted m = cond (accepted && liveBy m) (record { live = true; ground = groundBy (m .node) }) noNodeReport
 
 unfoldable pub reportFor : Bool → List MemberOutline → Report
-reportFor accepted ms = record { told = tab 32 (λ i. toldFor accepted (getD ms i (memberOutline nobody))) }
+reportFor accepted ms = record { nodes = tab 32 (λ i. toldFor accepted (getD ms i (memberOutline nobody))) }
 
 abbrev pub reportIn : Scene → Event → Report
 reportIn c e = reportFor (closesWith e (answerBy c e)) (c .site .members)

@@ -16,9 +16,9 @@ use Rattle.site.specs.declared.Event.{Event}
 use Rattle.machine.specs.declared.Report.{Report}
 use Rattle.windows.specs.Windows.{listOk}
 use Rattle.windows.specs.declared.Window.{Window}
-use Rattle.machine.specs.hours.Hours.{givenTable}
-use Rattle.machine.specs.hours.Calls.{TimedState}
-use Rattle.traces.specs.Reached.{begin}
+use Rattle.machine.specs.timed.Timed.{givenTable}
+use Rattle.machine.specs.timed.Calls.{TimedState}
+use Rattle.histories.specs.Reached.{begin}
 use Rattle.agreement.proofs.daily.Theorem.{plainOf}
 use Rattle.agreement.proofs.daily.Loads.{given-loads}
 use Rattle.script.specs.events.Events.{eventOf}
@@ -83,7 +83,7 @@ module _ (f : Config) (t : Table) (d : loadAnswer f t ≡ Done) (area : List ℕ
       let g = given-loads f t D ws ok d in
       let h = given-loads f t E vs fine d in
       ap₂ (λ (y z : List ℕ). y ++ z)
-      (ap (λ (r : Report). reasonOf j n (r .told))
+      (ap (λ (r : Report). reasonOf j n (r .nodes))
       (sym (same-line f t (givenTable ws t) d g area D ws ok v w b p) ∙ same-line f t (givenTable vs t) d h area E vs fine v x c p))
       (same-told j (plainAfter v p) (desk.lineAfter ws w p) (desk.lineAfter vs x p)
       (next-line f t (givenTable ws t) d g area D ws ok v w b p) (next-line f t (givenTable vs t) d h area E vs fine v x c p) (n + 1)

@@ -39,10 +39,10 @@ use Rattle.site.proofs.Accepted.{answered, send-accepted, hear-accepted, close-
 use Rattle.site.proofs.Accepted.{restart-accepted, Acts}
 use Rattle.node.proofs.Bounds.{bounds}
 use Rattle.machine.specs.reports.Reports.{noNodeReport, memberReport, reportOf, closesWith}
-use Rattle.traces.specs.Hearing.{plainHear, senderOf}
-use Rattle.traces.proofs.Members.{live-up}
-use Rattle.traces.proofs.Sound.{Sound, noPacket, part-packet, hear-is, send-room, send-sound, hear-sound, close-sound, take-sound}
-use Rattle.traces.proofs.Sound.{end-sound, want-sound, crash-sound, restart-sound}
+use Rattle.histories.specs.Hearing.{plainHear, senderOf}
+use Rattle.histories.proofs.Members.{live-up}
+use Rattle.histories.proofs.Sound.{Sound, noPacket, part-packet, hear-is, send-room, send-sound, hear-sound, close-sound, take-sound}
+use Rattle.histories.proofs.Sound.{end-sound, want-sound, crash-sound, restart-sound}
 use Rattle.node.specs.Outline.{Outline}
 use Rattle.wants.specs.Outline.{MemberOutline, memberOutline, siteOutline}
 use Rattle.wants.specs.Wants.{isWant, reportAt}
@@ -134,7 +134,7 @@ pub report-of : (t : Bool) (ms : List Member) → reportOf t ms ≡ reportFor t 
 unfolding reportOf reportFor
 report-of t ms =
     λ k. record {
-      told = tab-ext 32 _ _ (λ i l. told-is t (getD ms i nobody) ∙ ap (toldFor t) (sym (List·getD-map memberOutline ms i nobody))) k;
+      nodes = tab-ext 32 _ _ (λ i l. told-is t (getD ms i nobody) ∙ ap (toldFor t) (sym (List·getD-map memberOutline ms i nobody))) k;
     }
 
 pub report-is : (s : Site) (area : List ℕ) (air : List Packet) (e : Event) → answerOf s area e ≡ answerBy (sceneOf s area air) e

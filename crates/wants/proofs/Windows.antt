@@ -21,17 +21,17 @@ use Rattle.site.specs.declared.Table.{Table}
 use Rattle.site.specs.declared.Event.{Event}
 use Rattle.site.specs.declared.Event.the-variants.{Want}
 use Rattle.machine.specs.declared.Report.{Report}
-use Rattle.traces.specs.Past.{noPast}
-use Rattle.traces.specs.Reached.{begin}
-use Rattle.traces.proofs.Always.{always}
+use Rattle.histories.specs.Past.{noPast}
+use Rattle.histories.specs.Reached.{begin}
+use Rattle.histories.proofs.Always.{always}
 use Rattle.windows.specs.Windows.{listOk, hasWindows, demandAt}
 use Rattle.windows.specs.declared.Window.{Window}
-use Rattle.machine.specs.hours.Hours.{Timed, epochAfter, nextInDay, givenRow, givenTable, timedLoadAnswer, loadedTimed, inLastRound}
-use Rattle.machine.specs.hours.Hours.{beginsEpoch}
-use Rattle.machine.specs.hours.Hours.{timedAnswer, nextTimed, timedAfter}
-use Rattle.machine.specs.hours.Calls.{Call, TimedState, afterCall, runCalls}
+use Rattle.machine.specs.timed.Timed.{Timed, epochAfter, nextInDay, givenRow, givenTable, timedLoadAnswer, loadedTimed, inLastRound}
+use Rattle.machine.specs.timed.Timed.{beginsEpoch}
+use Rattle.machine.specs.timed.Timed.{timedAnswer, nextTimed, timedAfter}
+use Rattle.machine.specs.timed.Calls.{Call, TimedState, afterCall, runCalls}
 use Rattle.machine.specs.declared.Day.{Day}
-use Rattle.machine.proofs.hours.Laws.{load-accepts, loaded-site}
+use Rattle.machine.proofs.timed.Laws.{load-accepts, loaded-site}
 use Rattle.agreement.specs.daily.Daily.{wantsOf, eventsOf, eventsOfAll, beginBy}
 use Rattle.agreement.proofs.daily.Theorem.{plainOf, same-all, long-run, long-loaded}
 use Rattle.agreement.proofs.daily.Loads.{given-loads, timed-accepted}

@@ -21,10 +21,10 @@ use Rattle.site.specs.declared.Event.{Event}
 use Rattle.site.specs.declared.Event.the-variants.{Send, Hear, Close, Want}
 use Rattle.machine.specs.reports.Reports.{noNodeReport}
 use Rattle.machine.specs.declared.Report.{Report}
-use Rattle.traces.specs.Reached.{begin}
+use Rattle.histories.specs.Reached.{begin}
 use Rattle.windows.specs.declared.Window.{Window}
-use Rattle.machine.specs.hours.Hours.{timedLoadAnswer}
-use Rattle.machine.specs.hours.Calls.{Call, runCalls}
+use Rattle.machine.specs.timed.Timed.{timedLoadAnswer}
+use Rattle.machine.specs.timed.Calls.{Call, runCalls}
 use Rattle.agreement.specs.daily.Daily.{beginBy}
 use Rattle.wants.specs.Wants.{withoutWants, SameButWants, closeReports, reportsBy, goodLists}
 
@@ -57,7 +57,7 @@ lentCalls = map (λ (e : Event). record { event = e; windows = exampleWindows })
 
 -- the rule's number and the missing node of nodes 1 and 2
 abbrev pub ruleIn : Report → ℕ → List ℕ
-ruleIn r i = ruleNumber (getD (r .told) i noNodeReport .ground .rule) ∷ getD (r .told) i noNodeReport .ground .missing ∷ []
+ruleIn r i = ruleNumber (getD (r .nodes) i noNodeReport .ground .rule) ∷ getD (r .nodes) i noNodeReport .ground .missing ∷ []
 
 abbrev pub rulesIn : List Report → List (List (List ℕ))
 rulesIn rs = map (λ (r : Report). ruleIn r 0 ∷ ruleIn r 1 ∷ []) rs

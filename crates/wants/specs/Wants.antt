@@ -21,11 +21,11 @@ use Rattle.site.specs.declared.Event.{Event}
 use Rattle.site.specs.declared.Event.the-variants.{Send, Hear, Close, Take, End, Want, Crash, Restart}
 use Rattle.machine.specs.reports.Reports.{reportOf, isReported}
 use Rattle.machine.specs.declared.Report.{Report}
-use Rattle.traces.specs.Reached.{begin}
+use Rattle.histories.specs.Reached.{begin}
 use Rattle.windows.specs.Windows.{listOk}
 use Rattle.windows.specs.declared.Window.{Window}
-use Rattle.machine.specs.hours.Hours.{timedLoadAnswer, timedAnswer}
-use Rattle.machine.specs.hours.Calls.{Call, TimedState, afterCall, runCalls}
+use Rattle.machine.specs.timed.Timed.{timedLoadAnswer, timedAnswer}
+use Rattle.machine.specs.timed.Calls.{Call, TimedState, afterCall, runCalls}
 use Rattle.agreement.specs.daily.Daily.{beginBy}
 use Rattle.wants.specs.Outline.{siteOutline}
 

@@ -16,7 +16,7 @@ use Rattle.node.specs.Answers.{number, isDone}
 use Rattle.node.specs.declared.Answer.{Answer}
 use Rattle.node.specs.declared.Answer.the-variants.{NoRoom, BadWindows}
 use Rattle.windows.specs.Windows.{listOk}
-use Rattle.machine.specs.hours.Calls.{TimedState}
+use Rattle.machine.specs.timed.Calls.{TimedState}
 use Rattle.script.specs.events.Events.{eventOf}
 use Rattle.script.specs.load.Opening.{Reading, Opening, opening, got}
 use Rattle.desk.specs.listing.Rows.{firstHead, reportLine, refusalLine, rowsText}

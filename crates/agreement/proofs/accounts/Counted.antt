@@ -16,7 +16,7 @@ use Rattle.site.specs.Run.{RunState, after}
 use Rattle.site.specs.Model.{Site}
 use Rattle.site.specs.declared.Event.{Event}
 use Rattle.site.specs.declared.Event.the-variants.{Send, Hear, Close, Take, End, Want, Crash, Restart}
-use Rattle.traces.specs.Past.{Past, recorded, pastAfter}
+use Rattle.histories.specs.Past.{Past, recorded, pastAfter}
 use Rattle.tally.specs.Counting.{topEpochs, tallyOk, epochCounted}
 use Rattle.tally.specs.Ends.{schedulesOf, tallyAt, talliedAnswer, tallyAfter}
 use Rattle.tally.specs.declared.Tally.{Tally}

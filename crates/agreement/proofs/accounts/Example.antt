@@ -26,7 +26,7 @@ use Rattle.site.specs.declared.Event.{Event}
 use Rattle.site.specs.declared.Event.the-variants.{Close, End}
 use Rattle.node.specs.declared.Config.{Config}
 use Rattle.site.specs.declared.Table.{Table}
-use Rattle.traces.specs.Reached.{begin}
+use Rattle.histories.specs.Reached.{begin}
 use Rattle.tally.specs.Claims.{sum, claimants}
 use Rattle.tally.specs.Counting.{tallyOk, added, epochCounted}
 use Rattle.tally.specs.Ends.{schedulesOf, tallyAt, talliedAnswer, talliedSite, talliedArea, tallyAfter}

@@ -24,9 +24,9 @@ use Rattle.site.specs.declared.Table.{Table}
 use Rattle.site.specs.Model.{Site}
 use Rattle.site.specs.declared.Event.{Event}
 use Rattle.agreement.specs.Demand.{Agreement}
-use Rattle.traces.specs.Reached.{begin}
+use Rattle.histories.specs.Reached.{begin}
 use Rattle.agreement.proofs.Theorem.{holds}
-use Rattle.traces.proofs.Always.{always}
+use Rattle.histories.proofs.Always.{always}
 use Rattle.tally.specs.Claims.{claims, claimants}
 use Rattle.tally.specs.Ends.{ownSchedule, schedulesOf}
 use Rattle.agreement.specs.accounts.Accounts.{ClaimedOnce}

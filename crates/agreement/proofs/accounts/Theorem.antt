@@ -10,8 +10,8 @@ use Rattle.node.specs.declared.Config.{Config}
 use Rattle.site.specs.declared.Table.{Table}
 use Rattle.site.specs.declared.Event.{Event}
 use Rattle.site.specs.Model.{Site}
-use Rattle.traces.specs.Past.{Past, noPast, pastAfter, trace}
-use Rattle.traces.specs.Reached.{begin}
+use Rattle.histories.specs.Past.{Past, noPast, pastAfter, trace}
+use Rattle.histories.specs.Reached.{begin}
 use Rattle.agreement.proofs.Theorem.{holds}
 use Rattle.tally.specs.Counting.{tallyOk}
 use Rattle.tally.specs.Ends.{schedulesOf}

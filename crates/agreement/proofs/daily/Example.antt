@@ -15,7 +15,7 @@ use Rattle.node.specs.declared.Config.{Config}
 use Rattle.site.specs.declared.Table.{Table}
 use Rattle.windows.specs.Windows.{listOk, hasWindows, demandAt, dueAt}
 use Rattle.windows.specs.declared.Window.{Window}
-use Rattle.machine.specs.hours.Hours.{timedLoadAnswer}
+use Rattle.machine.specs.timed.Timed.{timedLoadAnswer}
 
 config : Config
 config = record { nodes = 1; slots = 4; rounds = 1; «min_heard» = 1; split = 0 }

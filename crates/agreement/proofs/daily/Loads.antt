@@ -25,7 +25,7 @@ use Rattle.site.specs.declared.Table.{Table}
 use Rattle.windows.specs.Windows.{listOk}
 use Rattle.windows.specs.declared.Window.{Window}
 use Rattle.windows.proofs.Laws.{due-small}
-use Rattle.machine.specs.hours.Hours.{givenRow, givenTable, timedLoadAnswer}
+use Rattle.machine.specs.timed.Timed.{givenRow, givenTable, timedLoadAnswer}
 
 -- a node that starts with one demand starts with any other within its range
 start-any : (s : Setup) (v flags d x : ℕ) → startAnswer s v flags d ≡ Done → x ≤ topRequest → startAnswer s v flags x ≡ Done

@@ -22,16 +22,16 @@ use Rattle.site.specs.declared.Event.{Event}
 use Rattle.site.specs.declared.Event.the-variants.{End}
 use Rattle.site.proofs.Accepted.{answered}
 use Rattle.site.proofs.Steps.{members-kept}
-use Rattle.traces.specs.Past.{Determination, Past, noPast, recorded, pastAfter, trace}
+use Rattle.histories.specs.Past.{Determination, Past, noPast, recorded, pastAfter, trace}
 use Rattle.agreement.specs.Demand.{Agreement, Justified, SameDetermination}
 use Rattle.agreement.proofs.Theorem.{holds}
 use Rattle.windows.specs.Windows.{listOk}
 use Rattle.windows.specs.declared.Window.{Window}
-use Rattle.machine.specs.hours.Hours.{Timed, epochAfter, givenSite, givenTable, timedLoadAnswer, loadedTimed, inLastRound, timedAnswer}
-use Rattle.machine.specs.hours.Hours.{givenBefore}
-use Rattle.machine.specs.hours.Hours.{nextTimed, timedAfter}
-use Rattle.machine.specs.hours.Calls.{Call, TimedState, afterCall, runCalls}
-use Rattle.machine.proofs.hours.Laws.{loaded-site, end-area, end-plain, end-is, plain-answer, plain-after}
+use Rattle.machine.specs.timed.Timed.{Timed, epochAfter, givenSite, givenTable, timedLoadAnswer, loadedTimed, inLastRound, timedAnswer}
+use Rattle.machine.specs.timed.Timed.{givenBefore}
+use Rattle.machine.specs.timed.Timed.{nextTimed, timedAfter}
+use Rattle.machine.specs.timed.Calls.{Call, TimedState, afterCall, runCalls}
+use Rattle.machine.proofs.timed.Laws.{loaded-site, end-area, end-plain, end-is, plain-answer, plain-after}
 use Rattle.agreement.specs.daily.Daily.{wantsOf, eventsOf, eventsOfAll, beginBy, pastAfterCall, traceCalls, Plain, Daily}
 use Rattle.agreement.proofs.daily.Wants.{run-append, trace-append, wants-all, wants-past}
 use Rattle.agreement.proofs.daily.Loads.{given-loads, timed-accepted}

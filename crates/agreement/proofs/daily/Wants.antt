@@ -13,12 +13,12 @@ use Rattle.site.specs.Run.{RunState, after, run}
 use Rattle.site.specs.Model.{Site}
 use Rattle.site.specs.declared.Event.{Event}
 use Rattle.site.specs.declared.Event.the-variants.{Want}
-use Rattle.traces.specs.Past.{Past, pastAfter, trace}
+use Rattle.histories.specs.Past.{Past, pastAfter, trace}
 use Rattle.windows.specs.Windows.{listOk, hasWindows, demandAt}
 use Rattle.windows.specs.declared.Window.{Window}
-use Rattle.machine.specs.hours.Hours.{givenSite}
-use Rattle.machine.proofs.hours.Laws.{given-same}
-use Rattle.machine.proofs.hours.Given.{was, partSite, want-area, want-site, start, stay-site, finish}
+use Rattle.machine.specs.timed.Timed.{givenSite}
+use Rattle.machine.proofs.timed.Laws.{given-same}
+use Rattle.machine.proofs.timed.Given.{was, partSite, want-area, want-site, start, stay-site, finish}
 use Rattle.agreement.specs.daily.Daily.{wantsOf}
 
 -- one list of events after another

@@ -30,11 +30,11 @@ use Rattle.agreement.specs.Demand.{final}
 use Rattle.windows.specs.Windows.{listOk, hasWindows, dueAt}
 use Rattle.windows.specs.declared.Window.{Window}
 use Rattle.windows.proofs.Laws.{due-kept, none-has}
-use Rattle.machine.specs.hours.Hours.{Timed, epochAfter, nextInDay, givenSite, givenRow, givenTable, loadedTimed, inLastRound, beginsEpoch}
-use Rattle.machine.specs.hours.Hours.{timedAnswer, givenBefore, nextTimed, timedAfter}
-use Rattle.machine.specs.hours.Calls.{Call, TimedState, afterCall, runCalls}
+use Rattle.machine.specs.timed.Timed.{Timed, epochAfter, nextInDay, givenSite, givenRow, givenTable, loadedTimed, inLastRound, beginsEpoch}
+use Rattle.machine.specs.timed.Timed.{timedAnswer, givenBefore, nextTimed, timedAfter}
+use Rattle.machine.specs.timed.Calls.{Call, TimedState, afterCall, runCalls}
 use Rattle.machine.specs.declared.Day.{Day}
-use Rattle.machine.proofs.hours.Laws.{given-none, load-accepts, loaded-site, plain-after, end-is}
+use Rattle.machine.proofs.timed.Laws.{given-none, load-accepts, loaded-site, plain-after, end-is}
 use Rattle.agreement.specs.daily.Daily.{beginBy, finalBy}
 use Rattle.agreement.proofs.daily.Theorem.{long-after, long-loaded}
 

@@ -20,8 +20,8 @@ use Rattle.node.specs.declared.Config.{Config}
 use Rattle.site.specs.declared.Table.{Table}
 use Rattle.site.specs.Model.{Site}
 use Rattle.site.specs.declared.Event.{Event}
-use Rattle.traces.specs.Past.{trace, noPast}
-use Rattle.traces.specs.Reached.{begin}
+use Rattle.histories.specs.Past.{trace, noPast}
+use Rattle.histories.specs.Reached.{begin}
 use Rattle.agreement.specs.Demand.{Demand3}
 use Rattle.tally.specs.Claims.{heldBy, claimants, sum, claimed}
 use Rattle.tally.specs.Counting.{topEpochs, firstTally, slotsAt, heldAt, tallyOk}

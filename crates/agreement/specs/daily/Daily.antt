@@ -19,13 +19,13 @@ use Rattle.site.specs.declared.Table.{Table}
 use Rattle.site.specs.Model.{Site}
 use Rattle.site.specs.declared.Event.{Event}
 use Rattle.site.specs.declared.Event.the-variants.{End, Want}
-use Rattle.traces.specs.Past.{Determination, Past, noPast, recorded, trace}
+use Rattle.histories.specs.Past.{Determination, Past, noPast, recorded, trace}
 use Rattle.agreement.specs.Demand.{Agreement, Justified, SameDetermination, final, determinations}
 use Rattle.windows.specs.Windows.{listOk, hasWindows, demandAt}
 use Rattle.windows.specs.declared.Window.{Window}
-use Rattle.machine.specs.hours.Hours.{epochAfter, givenSite, givenTable, timedLoadAnswer, loadedTimed, inLastRound, beginsEpoch}
-use Rattle.machine.specs.hours.Hours.{timedAnswer}
-use Rattle.machine.specs.hours.Calls.{Call, TimedState, afterCall, runCalls}
+use Rattle.machine.specs.timed.Timed.{epochAfter, givenSite, givenTable, timedLoadAnswer, loadedTimed, inLastRound, beginsEpoch}
+use Rattle.machine.specs.timed.Timed.{timedAnswer}
+use Rattle.machine.specs.timed.Calls.{Call, TimedState, afterCall, runCalls}
 
 -- the wants of an epoch: one for each of the first n nodes that has windows
 unfoldable pub wantsOf : List Window → ℕ → ℕ → List Event

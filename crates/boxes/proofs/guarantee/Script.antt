@@ -33,7 +33,7 @@ use Rattle.script.specs.load.Opening.{got, opening, namesLine, settingsLine, ta
 use Rattle.script.specs.events.Events.{numberFrom, fieldsOf}
 use Rattle.desk.specs.listing.Rows.{firstHead, refusalLine, moreOwners, ownersText, rowText, rowsText}
 use Rattle.windows.specs.Windows.{listOk, hasWindows, demandAt, dueAt}
-use Rattle.machine.specs.hours.Hours.{givenSite, givenTable, timedLoadAnswer, loadedTimed, timedAnswer, nextTimed, timedAfter}
+use Rattle.machine.specs.timed.Timed.{givenSite, givenTable, timedLoadAnswer, loadedTimed, timedAnswer, nextTimed, timedAfter}
 use Rattle.agreement.specs.Demand.{final}
 use Rattle.desk.specs.listings.Output.{secondHead, eventsIn, refusedLines, loadedState, unfit}
 use Rattle.boxes.specs.guarantee.Script.{caseScript, caseListing, zeros, caseOpening, caseLines, RealScript}

@@ -35,8 +35,8 @@ use Rattle.node.proofs.Bounds.{bounds}
 use Rattle.windows.specs.Windows.{dayOk, listOk, hasWindows, dueAt}
 use Rattle.windows.specs.declared.Window.{Window}
 use Rattle.windows.proofs.Laws.{due-given, due-kept, due-range, due-small}
-use Rattle.machine.specs.hours.Hours.{givenRow, givenTable, timedLoadAnswer, loadedTimed}
-use Rattle.machine.proofs.hours.Laws.{wanted-same, loaded-site}
+use Rattle.machine.specs.timed.Timed.{givenRow, givenTable, timedLoadAnswer, loadedTimed}
+use Rattle.machine.proofs.timed.Laws.{wanted-same, loaded-site}
 use Rattle.lookup.specs.Lookup.{nodesOk, demandAnswer, demandAfter}
 use Rattle.boxes.specs.service.Service.{rowOf, firstDemand, Service}
 

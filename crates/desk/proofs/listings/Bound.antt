@@ -11,7 +11,7 @@ use Rattle.node.specs.declared.Answer.{Answer}
 use Rattle.node.specs.declared.Answer.the-variants.{OutOfRange, BadWindows}
 use Rattle.site.specs.Model.{Member}
 use Rattle.windows.specs.declared.Window.{Window}
-use Rattle.machine.specs.hours.Calls.{TimedState}
+use Rattle.machine.specs.timed.Calls.{TimedState}
 use Rattle.script.specs.events.Events.{eventOf}
 use Rattle.script.specs.load.Opening.{Opening}
 use Rattle.script.proofs.load.Outcome.{lines, lines-behind, lines-split, WellFormed}
@@ -53,7 +53,7 @@ told-short (l ∷ []) j ws w n k = omega arith
 told-short (l ∷ m ∷ ls) j ws w n k =
     omega (
       arith,
-      length-append (reasonOf j n (lineReport (w .timed .site) (w .area) (eventOf l) .told))
+      length-append (reasonOf j n (lineReport (w .timed .site) (w .area) (eventOf l) .nodes))
           (reasonLines j ws (lineAfter ws w (eventOf l)) (n + 1) (m ∷ ls)),
       line-short j (w .timed .site) (w .area) n l (omega arith),
       told-short (m ∷ ls) j ws (lineAfter ws w (eventOf l)) (n + 1) (omega arith),

@@ -11,10 +11,10 @@ use Rattle.node.specs.declared.Answer.the-variants.{OutOfRange}
 use Rattle.windows.specs.Windows.{listOk}
 use Rattle.windows.specs.declared.Window.{Window}
 use Rattle.node.specs.declared.Config.{Config}
-use Rattle.machine.specs.hours.Calls.{TimedState, runCalls}
+use Rattle.machine.specs.timed.Calls.{TimedState, runCalls}
 use Rattle.machine.specs.declared.Day.{Day}
 use Rattle.machine.specs.Layout.{Store, wordsSize, bytesSize, siteIn}
-use Rattle.machine.proofs.hours.Laws.{figures-kept, length-kept}
+use Rattle.machine.proofs.timed.Laws.{figures-kept, length-kept}
 use Rattle.machine.specs.reports.Reports.{noNodeReport}
 use Rattle.site.specs.declared.Event.{Event}
 use Rattle.site.specs.Model.{Site}
@@ -86,7 +86,7 @@ events-cut l [] h = absurd h
 events-cut l (p ∷ ps) h = refl
 
 told-cut : (j : ℕ) (ws : List Window) (w : TimedState) (n : ℕ) (l : List ℕ) (ps : List (List ℕ)) → Some ps
-    → reasonLines j ws w n (l ∷ ps) ≡ reasonOf j n (lineReport (w .timed .site) (w .area) (eventOf l) .told)
+    → reasonLines j ws w n (l ∷ ps) ≡ reasonOf j n (lineReport (w .timed .site) (w .area) (eventOf l) .nodes)
     ++ reasonLines j ws (lineAfter ws w (eventOf l)) (n + 1) ps
 unfolding reasonLines
 told-cut j ws w n l [] h = absurd h
@@ -95,7 +95,7 @@ told-cut j ws w n l (p ∷ ps) h = refl
 -- what is printed of a line of a state
 abbrev worldText : View → ℕ → List Window → TimedState → Parsed → List ℕ
 worldText Refusals n ws w p = refusalLine n (lineAnswer ws w p)
-worldText (Reasons j) n ws w p = reasonOf j n (lineReport (w .timed .site) (w .area) p .told)
+worldText (Reasons j) n ws w p = reasonOf j n (lineReport (w .timed .site) (w .area) p .nodes)
 
 lines-cut : (v : View) (ws : List Window) (w : TimedState) (n : ℕ) (l : List ℕ) (ps : List (List ℕ)) → Some ps
     → linesText v ws w n (l ∷ ps) ≡ worldText v n ws w (eventOf l) ++ linesText v ws (lineAfter ws w (eventOf l)) (n + 1) ps
@@ -143,12 +143,12 @@ module _ (s : List ℕ) (at e : ℕ) (h : Whole s at e) (ws : List Window) (p : 
         ∙ line-list ws (runStateIn st d b) p ∙ y
 
     pub next-lines : (wordsSize ≤ length (st .words)) × (bytesSize ≤ length (st .bytes)) → (n : ℕ)
-        → linesText v ws (runStateIn st d b) n (split 10 (drop at s)) ≡ lineText v n (t .turned .answer) (t .told)
+        → linesText v ws (runStateIn st d b) n (split 10 (drop at s)) ≡ lineText v n (t .turned .answer) (t .report)
         ++ linesText v ws reached (n + 1) rest
     next-lines long n =
         lines-line v (runStateIn st d b) n
         ∙ ap₂ (λ (y : List ℕ) (z : TimedState). y ++ linesText v ws z (n + 1) rest)
-        (sym (stored-text v n ws st d b long p) ∙ ap (λ (y : LineResult). lineText v n (y .turned .answer) (y .told)) (sym k)) state-is
+        (sym (stored-text v n ws st d b long p) ∙ ap (λ (y : LineResult). lineText v n (y .turned .answer) (y .report)) (sym k)) state-is
 
     pub next-run : runBy ws (runStateIn st d b) (eventsIn (split 10 (drop at s))) ≡ runBy ws reached (eventsIn rest)
     next-run = run-lines (runStateIn st d b) ∙ ap (λ (y : TimedState). runBy ws y (eventsIn rest)) state-is

@@ -12,10 +12,10 @@ use Rattle.text.proofs.Pieces.{Some}
 use Rattle.node.specs.declared.Answer.the-variants.{Done}
 use Rattle.node.specs.Answers.{isDone}
 use Rattle.words.proofs.Tests.{hit}
-use Rattle.machine.specs.hours.Hours.{timedLoadAnswer}
-use Rattle.machine.proofs.hours.Laws.{load-accepts}
+use Rattle.machine.specs.timed.Timed.{timedLoadAnswer}
+use Rattle.machine.proofs.timed.Laws.{load-accepts}
 use Rattle.windows.specs.declared.Window.{Window}
-use Rattle.machine.specs.hours.Calls.{TimedState, runCalls}
+use Rattle.machine.specs.timed.Calls.{TimedState, runCalls}
 use Rattle.script.specs.events.Events.{eventOf}
 use Rattle.node.specs.declared.Config.{Config}
 use Rattle.script.specs.load.Opening.{Reading, got, Opening, opening}

@@ -22,12 +22,12 @@ use Rattle.site.specs.Model.{Site}
 use Rattle.windows.specs.Windows.{listOk}
 use Rattle.windows.specs.declared.Window.{Window}
 use Rattle.machine.specs.Layout.{Store, store, siteIn}
-use Rattle.machine.specs.hours.Hours.{Timed, loadedTimed}
-use Rattle.machine.specs.hours.Calls.{TimedState}
-use Rattle.machine.specs.hours.Stored.{timedIn, storedLoad, timedLoadedSite}
+use Rattle.machine.specs.timed.Timed.{Timed, loadedTimed}
+use Rattle.machine.specs.timed.Calls.{TimedState}
+use Rattle.machine.specs.timed.Stored.{timedIn, storedLoad, timedLoadedSite}
 use Rattle.machine.specs.declared.Day.{Day}
 use Rattle.machine.specs.declared.DayAnswer.{DayAnswer}
-use Rattle.machine.proofs.hours.Stored.{Long, as-load, as-begun}
+use Rattle.machine.proofs.timed.Stored.{Long, as-load, as-begun}
 use Rattle.words.proofs.Tests.{never, hit, skip}
 use Rattle.script.specs.load.Opening.{Reading, refused, got, Opening, opening, configRead, readBack}
 use Rattle.script.specs.declared.ScriptHead.{ScriptHead}

@@ -53,12 +53,12 @@ silent (suc i) n ts m l = go (ltb i 32) refl
     go false e = reason-out (suc i) n ts (let h = ltb-false i 32 e in omega (arith, l, h))
 
 -- the report of all members, node by node
-pub at-report : (b : Bool) (ms : List Member) (j : ℕ) → j < 32 → getD (reportOf b ms .told) j noNodeReport
+pub at-report : (b : Bool) (ms : List Member) (j : ℕ) → j < 32 → getD (reportOf b ms .nodes) j noNodeReport
     ≡ memberReport b (getD ms j nobody)
 unfolding reportOf
 at-report b ms j l = getD-tab noNodeReport 32 (λ i. memberReport b (getD ms i nobody)) j l
 
-pub long-report : (b : Bool) (ms : List Member) → length (reportOf b ms .told) ≡ 32
+pub long-report : (b : Bool) (ms : List Member) → length (reportOf b ms .nodes) ≡ 32
 unfolding reportOf
 long-report b ms = length-tab 32 (λ i. memberReport b (getD ms i nobody))
 
@@ -68,21 +68,21 @@ untold-silent m = refl
 
 -- a line of a script
 pub line-short : (j : ℕ) (s : Site) (area : List ℕ) (n : ℕ) (l : List ℕ) → n < 100000
-    → length (reasonOf j n (lineReport s area (eventOf l) .told)) ≤ 4 * suc (length l)
+    → length (reasonOf j n (lineReport s area (eventOf l) .nodes)) ≤ 4 * suc (length l)
 line-short j s area n l k = go (eventOf l) refl
   where
     at-close : (e : Event) → eventOf l ≡ Good e → (b : Bool) → isReported s area e ≡ b
-        → length (reasonOf j n (reportOf b (s .members) .told)) ≤ 4 * suc (length l)
+        → length (reasonOf j n (reportOf b (s .members) .nodes)) ≤ 4 * suc (length l)
     at-close e q true r =
         let c : closes (eventOf l) ≡ true = ap closes q ∙ and-left (isClose e) (isDone (answerOf s area e)) r in
-        omega (arith, close-long l c, reasonOf-short j n (reportOf true (s .members) .told) k)
+        omega (arith, close-long l c, reasonOf-short j n (reportOf true (s .members) .nodes) k)
     at-close e q false r =
-        let z = silent j n (reportOf false (s .members) .told)
+        let z = silent j n (reportOf false (s .members) .nodes)
         (λ i m. ap (λ (t : NodeReport). t .live) (at-report false (s .members) i m) ∙ untold-silent (getD (s .members) i nobody))
         (long-report false (s .members)) in
         omega (arith, ap length z)
 
-    go : (p : Parsed) → eventOf l ≡ p → length (reasonOf j n (lineReport s area p .told)) ≤ 4 * suc (length l)
+    go : (p : Parsed) → eventOf l ≡ p → length (reasonOf j n (lineReport s area p .nodes)) ≤ 4 * suc (length l)
     go Malformed q =
         let z = silent j n (replicate 32 noNodeReport)
         (λ i m. ap (λ (t : NodeReport). t .live) (getD-replicate 32 i noNodeReport noNodeReport m))

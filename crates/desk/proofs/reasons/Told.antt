@@ -48,13 +48,13 @@ module _ (s : Store) (w : wordsSize ≤ length (s .words)) (b : bytesSize ≤ le
       go false y z e = refl
 
   -- the line of node j
-  member-line : (t : Bool) (j n : ℕ) → reason n j (memberReport t (memberRead s j)) ≡ reasonOf j n (reportOf t (siteIn s .members) .told)
+  member-line : (t : Bool) (j n : ℕ) → reason n j (memberReport t (memberRead s j)) ≡ reasonOf j n (reportOf t (siteIn s .members) .nodes)
   unfolding reasonOf
   member-line t zero n = ap (reason n 0) (out-told t 0 refl) ∙ reason-none n 0 noNodeReport refl
   member-line t (suc i) n = go (ltb i 32) refl
     where
       go : (x : Bool) → ltb i 32 ≡ x → reason n (suc i) (memberReport t (memberRead s (suc i)))
-          ≡ reasonOf (suc i) n (reportOf t (siteIn s .members) .told)
+          ≡ reasonOf (suc i) n (reportOf t (siteIn s .members) .nodes)
       go true e =
           let h : i < 32 = ltb-true i 32 e in
           let z : suc i - 1 ≡ i = omega arith in
@@ -65,17 +65,17 @@ module _ (s : Store) (w : wordsSize ≤ length (s .words)) (b : bytesSize ≤ le
           let h : 32 ≤ i = ltb-false i 32 e in
           ap (reason n (suc i)) (out-told t (suc i) (above-out (suc i) (omega arith)))
           ∙ reason-none n (suc i) noNodeReport refl
-          ∙ sym (reason-out (suc i) n (reportOf t (siteIn s .members) .told) (omega (arith, long-report t (siteIn s .members))))
+          ∙ sym (reason-out (suc i) n (reportOf t (siteIn s .members) .nodes) (omega (arith, long-report t (siteIn s .members))))
 
   -- so it is of an event, and of a line that is none
   pub event-report : (l : List ℕ) (j n : ℕ) (e : Event) → reason n j (nodeReportIn s l e j)
-      ≡ reasonOf j n (lineReport (siteIn s) l (Good e) .told)
+      ≡ reasonOf j n (lineReport (siteIn s) l (Good e) .nodes)
   unfolding nodeReportIn
   event-report l j n e =
       let q : reportedIn s l e ≡ isReported (siteIn s) l e = ap (λ (a : Answer). isClose e && isDone a) (as-site s l e w b .0) in
-      member-line (reportedIn s l e) j n ∙ ap (λ (t : Bool). reasonOf j n (reportOf t (siteIn s .members) .told)) q
+      member-line (reportedIn s l e) j n ∙ ap (λ (t : Bool). reasonOf j n (reportOf t (siteIn s .members) .nodes)) q
 
-pub none-told : (j n : ℕ) → reason n j noNodeReport ≡ reasonOf j n (noReport .told)
+pub none-told : (j n : ℕ) → reason n j noNodeReport ≡ reasonOf j n (noReport .nodes)
 none-told j n =
     reason-none n j noNodeReport refl
     ∙ sym (silent j n (replicate 32 noNodeReport)

@@ -18,8 +18,8 @@ use Rattle.site.specs.Model.{Member}
 use Rattle.machine.specs.Layout.{Store, siteIn}
 use Rattle.machine.specs.reports.Reports.{noNodeReport, nodeReportIn}
 use Rattle.machine.specs.declared.NodeReport.{NodeReport}
-use Rattle.machine.specs.hours.Calls.{TimedState}
-use Rattle.machine.specs.hours.Stored.{timedIn}
+use Rattle.machine.specs.timed.Calls.{TimedState}
+use Rattle.machine.specs.timed.Stored.{timedIn}
 use Rattle.machine.specs.declared.Day.{Day}
 use Rattle.machine.specs.declared.DayAnswer.{DayAnswer}
 use Rattle.script.specs.declared.Parsed.{Parsed}
@@ -56,7 +56,7 @@ lineNodeReport v s a (Good e) = eventNodeReport v s a e
 
 -- what a line gives
 abbrev pub lineTaken : View → List Window → Store → Day → List ℕ → Parsed → LineResult
-lineTaken v ws s d a p = record { turned = lineTurned ws (runStateIn s d a) p; told = lineNodeReport v s a p }
+lineTaken v ws s d a p = record { turned = lineTurned ws (runStateIn s d a) p; report = lineNodeReport v s a p }
 
 -- what is printed of a line
 abbrev pub lineText : View → ℕ → Answer → NodeReport → List ℕ

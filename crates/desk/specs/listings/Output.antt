@@ -14,8 +14,8 @@ use Rattle.site.specs.Answers.{areaSize}
 use Rattle.site.specs.declared.Event.{Event}
 use Rattle.windows.specs.Windows.{listOk}
 use Rattle.windows.specs.declared.Window.{Window}
-use Rattle.machine.specs.hours.Hours.{loadedTimed, timedAnswer}
-use Rattle.machine.specs.hours.Calls.{Call, TimedState, afterCall, runCalls}
+use Rattle.machine.specs.timed.Timed.{loadedTimed, timedAnswer}
+use Rattle.machine.specs.timed.Calls.{Call, TimedState, afterCall, runCalls}
 use Rattle.script.specs.events.Events.{eventOf}
 use Rattle.script.specs.declared.Parsed.{Parsed}
 use Rattle.script.specs.declared.Parsed.the-variants.{Malformed, Good}

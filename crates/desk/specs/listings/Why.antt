@@ -8,7 +8,7 @@ use Rattle.text.specs.Read.{split}
 use Rattle.node.specs.declared.Answer.{Answer}
 use Rattle.node.specs.declared.Answer.the-variants.{NoRoom, BadWindows}
 use Rattle.windows.specs.declared.Window.{Window}
-use Rattle.machine.specs.hours.Calls.{TimedState}
+use Rattle.machine.specs.timed.Calls.{TimedState}
 use Rattle.script.specs.events.Events.{eventOf}
 use Rattle.script.specs.load.Opening.{Reading, refused, got, Opening, opening}
 use Rattle.desk.specs.listing.Rows.{firstHead, refusalLine}
@@ -24,7 +24,7 @@ unfoldable pub reasonLines : ℕ → List Window → TimedState → ℕ → List
 reasonLines j ws w n [] = []
 reasonLines j ws w n (l ∷ []) = []
 reasonLines j ws w n (l ∷ m ∷ ls) =
-    reasonOf j n (lineReport (w .timed .site) (w .area) (eventOf l) .told)
+    reasonOf j n (lineReport (w .timed .site) (w .area) (eventOf l) .nodes)
     ++ reasonLines j ws (lineAfter ws w (eventOf l)) (n + 1) (m ∷ ls)
 
 -- What is printed comes in parts, one behind another: part 0 is the head, and part j the reasons of node j.

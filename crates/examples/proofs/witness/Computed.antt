@@ -33,12 +33,12 @@ use Rattle.site.specs.Load.{loadedSite, loadedMember}
 use Rattle.site.specs.Answers.{areaSize, siteSend, answerPart, siteHear, siteClose, siteTake, siteEnd, answerOf}
 use Rattle.site.specs.Steps.{sentSite, sentArea, heardSite, closedSite, takenSite, endedSite, siteAfter, areaAfter}
 use Rattle.site.specs.Run.{RunState}
-use Rattle.traces.specs.Reached.{begin}
-use Rattle.boxes.specs.field.Field.{rowOf, begunField}
-use Rattle.boxes.specs.field.Past.{noBoxPast}
-use Rattle.boxes.specs.field.Claim.{Begins, siteAnswers, events}
-use Rattle.boxes.proofs.field.Reach.{same-answers}
-use Rattle.boxes.proofs.field.Reach as reach
+use Rattle.histories.specs.Reached.{begin}
+use Rattle.boxes.specs.fleet.Fleet.{rowOf, begunFleet}
+use Rattle.boxes.specs.fleet.Past.{noBoxPast}
+use Rattle.boxes.specs.fleet.Claim.{Begins, siteAnswers, events}
+use Rattle.boxes.proofs.fleet.Reach.{same-answers}
+use Rattle.boxes.proofs.fleet.Reach as reach
 use Rattle.examples.specs.witness.Case.{settings, caseTable, acts, full, WholeCase}
 use Rattle.examples.proofs.witness.Shown.{membersShown, siteShown, trace-shown}
 
@@ -89,7 +89,7 @@ pub whole-case : WholeCase
 unfolding site
 whole-case =
     let r = reach.begun settings caseTable full case-begins area long in
-    let x = begunField settings caseTable full in
+    let x = begunFleet settings caseTable full in
     record {
       begins = case-begins;
       answers = ap (map number) (same-answers site x acts r) ∙ computed .0;

@@ -20,15 +20,15 @@ use Rattle.node.specs.declared.Config.{Config}
 use Rattle.site.specs.Model.{Site}
 use Rattle.site.specs.declared.Event.{Event}
 use Rattle.site.specs.declared.Event.the-variants.{Send, Hear, Close, Take, End, Want, Crash, Restart}
-use Rattle.traces.specs.Past.{Past}
-use Rattle.traces.proofs.Members.{live-up}
-use Rattle.boxes.specs.field.Field.{Box, Field, Act, live, fieldAfter}
-use Rattle.boxes.specs.field.Past.{BoxDetermination, BoxPast, boxDetermination, boxDeterminedBy, boxesDetermined, boxNoted, boxPastAfter}
-use Rattle.boxes.specs.field.Past.{boxTrace}
-use Rattle.boxes.specs.field.Claim.{events}
-use Rattle.boxes.proofs.field.Together.{at, fit}
-use Rattle.boxes.proofs.field.Reach.{Reached, answered-alike, reach}
-use Rattle.boxes.proofs.field.Results.{live-as}
+use Rattle.histories.specs.Past.{Past}
+use Rattle.histories.proofs.Members.{live-up}
+use Rattle.boxes.specs.fleet.Fleet.{Box, Fleet, Act, live, fleetAfter}
+use Rattle.boxes.specs.fleet.Past.{BoxDetermination, BoxPast, boxDetermination, boxDeterminedBy, boxesDetermined, boxNoted, boxPastAfter}
+use Rattle.boxes.specs.fleet.Past.{boxTrace}
+use Rattle.boxes.specs.fleet.Claim.{events}
+use Rattle.boxes.proofs.fleet.Together.{at, fit}
+use Rattle.boxes.proofs.fleet.Reach.{Reached, answered-alike, reach}
+use Rattle.boxes.proofs.fleet.Results.{live-as}
 use Rattle.examples.specs.witness.Case.{shownDetermination}
 
 -- what the node of number j determines, if it is live and determines
@@ -59,7 +59,7 @@ shown-cat : (k l : List BoxDetermination) → map shownDetermination (k ++ l) �
 shown-cat [] l = refl
 shown-cat (d ∷ k) l = ap (λ (x : List (List ℕ)). shownDetermination d ∷ x) (shown-cat k l)
 
-module _ {f : Config} {past : Past} {w : RunState} {x : Field} (r : Reached f past w x) where
+module _ {f : Config} {past : Past} {w : RunState} {x : Fleet} (r : Reached f past w x) where
   -- one box, and the first n
   one-shown : (y : BoxPast) (j : ℕ) → 1 ≤ j
       → map shownDetermination (boxDeterminedBy y j (r .together .boxes j)) ≡ cond
@@ -96,13 +96,13 @@ module _ {f : Config} {past : Past} {w : RunState} {x : Field} (r : Reached f pa
       ∙ ap₂ _++_ (boxes-shown y n) (one-shown y (suc n) (omega arith))
 
   -- an accepted event
-  noted-shown : (y : BoxPast) (e : Event) (z : Field) → map shownDetermination (boxNoted y x e z .log) ≡ map shownDetermination (y .log)
+  noted-shown : (y : BoxPast) (e : Event) (z : Fleet) → map shownDetermination (boxNoted y x e z .log) ≡ map shownDetermination (y .log)
       ++ newShown (w .site) e
   noted-shown y (Send j) z = sym (append-nil _)
   noted-shown y (Hear j p) z = sym (append-nil _)
   noted-shown y Close z =
       shown-cat (y .log) _
-      ∙ ap (λ (l : List (List ℕ)). map shownDetermination (y .log) ++ l) (ap (λ (a : Field). map shownDetermination
+      ∙ ap (λ (l : List (List ℕ)). map shownDetermination (y .log) ++ l) (ap (λ (a : Fleet). map shownDetermination
       (boxesDetermined (a .config .nodes) y (a .boxes))) (r .together .is) ∙ boxes-shown y (w .site .config .nodes))
   noted-shown y (Take j i) z = sym (append-nil _)
   noted-shown y End z = sym (append-nil _)
@@ -114,21 +114,21 @@ module _ {f : Config} {past : Past} {w : RunState} {x : Field} (r : Reached f pa
       ++ cond (isDone (answerOf (w .site) (w .area) (a .event))) (newShown (w .site) (a .event)) []
   unfolding boxPastAfter
   after-shown y a =
-      ap (λ (q : Answer). map shownDetermination (cond (isDone q) (boxNoted y x (a .event) (fieldAfter x a)) y .log))
+      ap (λ (q : Answer). map shownDetermination (cond (isDone q) (boxNoted y x (a .event) (fleetAfter x a)) y .log))
       (answered-alike r (a .event))
       ∙ go (isDone (answerOf (w .site) (w .area) (a .event)))
     where
-      go : (t : Bool) → map shownDetermination (cond t (boxNoted y x (a .event) (fieldAfter x a)) y .log) ≡ map shownDetermination (y .log)
+      go : (t : Bool) → map shownDetermination (cond t (boxNoted y x (a .event) (fleetAfter x a)) y .log) ≡ map shownDetermination (y .log)
           ++ cond t (newShown (w .site) (a .event)) []
-      go true = noted-shown y (a .event) (fieldAfter x a)
+      go true = noted-shown y (a .event) (fleetAfter x a)
       go false = sym (append-nil _)
 
 -- a list of events
-pub trace-shown : {f : Config} {past : Past} (w : RunState) (x : Field) (y : BoxPast) (acts : List Act) → Reached f past w x
+pub trace-shown : {f : Config} {past : Past} (w : RunState) (x : Fleet) (y : BoxPast) (acts : List Act) → Reached f past w x
     → map shownDetermination (boxTrace y x acts .log) ≡ map shownDetermination (y .log) ++ siteShown w (events acts)
 unfolding boxTrace siteShown
 trace-shown w x y [] r = sym (append-nil _)
 trace-shown w x y (a ∷ acts) r =
-    trace-shown (after w (a .event)) (fieldAfter x a) (boxPastAfter y x a) acts (reach r a)
+    trace-shown (after w (a .event)) (fleetAfter x a) (boxPastAfter y x a) acts (reach r a)
     ∙ ap (λ (l : List (List ℕ)). l ++ siteShown (after w (a .event)) (events acts)) (after-shown r y a)
     ∙ append-assoc (map shownDetermination (y .log)) _ (siteShown (after w (a .event)) (events acts))

@@ -28,17 +28,17 @@ use Rattle.site.specs.Answers.{siteSend, answerPart, siteHear, siteClose, siteT
 use Rattle.site.specs.Steps.{sentSite, sentArea, heardSite, closedSite, takenSite, endedSite, siteAfter, areaAfter}
 use Rattle.site.specs.Run.{run}
 use Rattle.site.specs.Model.{Site}
-use Rattle.traces.specs.Past.{noPast, trace}
-use Rattle.traces.proofs.Members.{live-up}
+use Rattle.histories.specs.Past.{noPast, trace}
+use Rattle.histories.proofs.Members.{live-up}
 use Rattle.agreement.specs.Demand.{owner}
 use Rattle.host.specs.Calls.{slotsSize, ownSlots}
 use Rattle.host.proofs.Slots.{slots-are}
-use Rattle.boxes.specs.field.Field.{Box, Field, Act, zeros, reading, slotIn, boxSlots, live, fieldRun, begunField}
-use Rattle.boxes.specs.field.Claim.{events}
-use Rattle.boxes.proofs.field.Together.{at, fit}
-use Rattle.boxes.proofs.field.Reach.{Reached, reaches}
-use Rattle.boxes.proofs.field.Reach as reach
-use Rattle.boxes.proofs.field.Results.{live-as, slot-of}
+use Rattle.boxes.specs.fleet.Fleet.{Box, Fleet, Act, zeros, reading, slotIn, boxSlots, live, fleetRun, begunFleet}
+use Rattle.boxes.specs.fleet.Claim.{events}
+use Rattle.boxes.proofs.fleet.Together.{at, fit}
+use Rattle.boxes.proofs.fleet.Reach.{Reached, reaches}
+use Rattle.boxes.proofs.fleet.Reach as reach
+use Rattle.boxes.proofs.fleet.Results.{live-as, slot-of}
 use Rattle.apart.specs.Apart.{negotiation, boxNow, acted, ticked, apartRun, between, sorted, begunApart}
 use Rattle.apart.specs.Time.{OnTime}
 use Rattle.apart.specs.Determined.{Determines}
@@ -53,8 +53,8 @@ use Rattle.examples.proofs.witness.Computed.{case-begins, area, site, l
 
 -- The site beside a list of events, and the field
 
-abbrev x : Field
-x = begunField settings caseTable full
+abbrev x : Fleet
+x = begunFleet settings caseTable full
 
 abbrev siteBy : List Act → Site
 siteBy es = run site (events es) .site
@@ -64,14 +64,14 @@ module _ (es : List Act) (j : ℕ) (l : 1 ≤ j) where
   s = siteBy es
 
   abbrev b : Box
-  b = fieldRun x es .boxes j
+  b = fleetRun x es .boxes j
 
-  r : Reached settings (trace (noPast (loadedSite settings caseTable)) site (events es)) (run site (events es)) (fieldRun x es)
+  r : Reached settings (trace (noPast (loadedSite settings caseTable)) site (events es)) (run site (events es)) (fleetRun x es)
   unfolding site
   r = reaches site x es (reach.begun settings caseTable full case-begins area long)
 
   same-box : b ≡ r .together .boxes j
-  same-box = ap (λ (y : Field). y .boxes j) (r .together .is)
+  same-box = ap (λ (y : Fleet). y .boxes j) (r .together .is)
 
   lives : isLive (memberAt s j) ≡ true → live b ≡ true
   lives h = ap live same-box ∙ live-as (r .kept) (r .together .beside) j l ∙ h
@@ -147,9 +147,9 @@ demand3 : ApartDemand3 settings caseTable full atEnd
 demand3 = apart-holds .demand3 settings caseTable full case-begins spread
 
 -- a box as it is at the end
-end-box : (j : ℕ) → atEnd .clock j ≡ 3 → boxNow atEnd j ≡ fieldRun x acts .boxes j
-end-box j e = demand3 .as-one .boxes (atEnd .clock j) j (omega arith) ∙ ap (λ (s : ℕ). fieldRun x (sorted (atEnd .log) s) .boxes j) e
-    ∙ ap (λ (es : List Act). fieldRun x es .boxes j) sorted-is
+end-box : (j : ℕ) → atEnd .clock j ≡ 3 → boxNow atEnd j ≡ fleetRun x acts .boxes j
+end-box j e = demand3 .as-one .boxes (atEnd .clock j) j (omega arith) ∙ ap (λ (s : ℕ). fleetRun x (sorted (atEnd .log) s) .boxes j) e
+    ∙ ap (λ (es : List Act). fleetRun x es .boxes j) sorted-is
 
 reads : (j k : ℕ) → 1 ≤ j → atEnd .clock j ≡ 3 → isLive (memberAt (siteBy acts) j) ≡ true → owner (memberAt (siteBy acts) j .node) k ≡ j
     → Reads atEnd j k
@@ -177,8 +177,8 @@ used : (j k : ℕ) → Knows atEnd j k → Uses settings caseTable full spread j
 unfolding allStay
 used j k r = record { before = spread; since = []; are = refl; knew = r; stayed = refl }
 
-first-box : atEnd .phases 0 .boxes 1 ≡ fieldRun x first .boxes 1
-first-box = demand3 .as-one .boxes 0 1 (omega arith) ∙ ap (λ (es : List Act). fieldRun x es .boxes 1) sorted-first
+first-box : atEnd .phases 0 .boxes 1 ≡ fleetRun x first .boxes 1
+first-box = demand3 .as-one .boxes 0 1 (omega arith) ∙ ap (λ (es : List Act). fleetRun x es .boxes 1) sorted-first
 
 determining : Determines settings atEnd 0 1
 determining =
@@ -225,7 +225,7 @@ spread-case =
       orderly-crashing = orderly-from-begin settings caseTable full crashing refl;
       on-time = record {
         each = λ j u.
-            let r = up-inside settings caseTable full halfWay (keeps-run (begunField settings caseTable full)
+            let r = up-inside settings caseTable full halfWay (keeps-run (begunFleet settings caseTable full)
             (begunApart settings caseTable full) (keeps-begun settings caseTable full) half) j u in
             half-on-time j (r .0) (r .1);
       };

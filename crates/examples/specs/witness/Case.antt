@@ -11,9 +11,9 @@ use Rattle.site.specs.declared.Row.{Row}
 use Rattle.site.specs.declared.Table.{Table}
 use Rattle.site.specs.declared.Event.{Event}
 use Rattle.site.specs.declared.Event.the-variants.{Send, Hear, Close, Take, End}
-use Rattle.boxes.specs.field.Field.{Act, fieldAnswers, begunField}
-use Rattle.boxes.specs.field.Past.{BoxDetermination}
-use Rattle.boxes.specs.field.Claim.{Begins, boxDeterminations}
+use Rattle.boxes.specs.fleet.Fleet.{Act, fleetAnswers, begunFleet}
+use Rattle.boxes.specs.fleet.Past.{BoxDetermination}
+use Rattle.boxes.specs.fleet.Claim.{Begins, boxDeterminations}
 
 -- the script's settings, table and events
 abbrev pub settings : Config
@@ -46,5 +46,5 @@ determinedThere = map shownDetermination (boxDeterminations settings caseTable f
 -- version 2 from all three requests
 pub record WholeCase : Type 0 where
   pub begins : Begins settings caseTable full
-  pub answers : map number (fieldAnswers (begunField settings caseTable full) acts) ≡ 0 ∷ 0 ∷ 0 ∷ 0 ∷ 0 ∷ 10 ∷ 0 ∷ 0 ∷ []
+  pub answers : map number (fleetAnswers (begunFleet settings caseTable full) acts) ≡ 0 ∷ 0 ∷ 0 ∷ 0 ∷ 0 ∷ 10 ∷ 0 ∷ 0 ∷ []
   pub determines : determinedThere ≡ (1 ∷ 2 ∷ 7 ∷ 2 ∷ 2 ∷ 2 ∷ []) ∷ []

@@ -6,7 +6,7 @@ use mathlib.Core.List.{List, [], _∷_, _++_, map}
 use Prim.Native.Nat.{_*_}
 use Rattle.site.specs.declared.Event.{Event}
 use Rattle.site.specs.declared.Event.the-variants.{Send, Hear, Take, Want, Crash, Restart}
-use Rattle.boxes.specs.field.Field.{boxSlots}
+use Rattle.boxes.specs.fleet.Fleet.{boxSlots}
 use Rattle.apart.specs.Apart.{Step, tick, act, Apart, boxNow, apartRun, sorted, begunApart}
 use Rattle.apart.specs.Determined.{Determines}
 use Rattle.apart.specs.Time.{AllOnTime}

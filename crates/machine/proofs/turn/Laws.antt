@@ -1,4 +1,4 @@
--- An event of a site with windows, tally and report: refused, and done. What is done is the event of module hours.
+-- An event of a site with windows, tally and report: refused, and done. What is done is the event of module timed.
 -- Assumes nothing.
 use mathlib.Core.Path.{_≡_, refl, sym, ap, _∙_}
 use mathlib.Core.Bool.{Bool, true, false, cond, _&&_, _||_}
@@ -21,12 +21,12 @@ use Rattle.windows.specs.declared.Window.{Window}
 use Rattle.machine.specs.Layout.{Store, store, wordsSize, bytesSize, tooShort, siteIn}
 use Rattle.machine.proofs.Whole.{long-enough}
 use Rattle.machine.specs.steps.After.{storageAnswer}
-use Rattle.machine.specs.hours.Hours.{Timed, timedAnswer, timedAfter, nextTimed}
-use Rattle.machine.specs.hours.Stored.{timedIn, storedAnswer, timedStore}
+use Rattle.machine.specs.timed.Timed.{Timed, timedAnswer, timedAfter, nextTimed}
+use Rattle.machine.specs.timed.Stored.{timedIn, storedAnswer, timedStore}
 use Rattle.machine.specs.declared.Day.{Day}
 use Rattle.machine.specs.declared.DayAnswer.{DayAnswer}
-use Rattle.machine.proofs.hours.Laws.{end-is, end-area, plain-answer, refused-after, done-after}
-use Rattle.machine.proofs.hours.Stored.{TurnIs, as-timed}
+use Rattle.machine.proofs.timed.Laws.{end-is, end-area, plain-answer, refused-after, done-after}
+use Rattle.machine.proofs.timed.Stored.{TurnIs, as-timed}
 use Rattle.machine.specs.reports.Reports.{reportedIn, putReport}
 use Rattle.machine.proofs.reports.Laws.{no-close-put}
 use Rattle.tally.specs.Counting.{tallyOk}
@@ -103,9 +103,9 @@ module _ (k : Kept) (ws : List Window) (e : Event) where
   plain = answerOf (k .timed .site) (k .area) e
 
   -- without an objection the answer is that of the site with its day
-  pub as-hours : isDone (objection k ws e) ≡ true → keptAnswer k ws e ≡ timedAnswer (k .timed) (k .area) ws e
+  pub same-timed : isDone (objection k ws e) ≡ true → keptAnswer k ws e ≡ timedAnswer (k .timed) (k .area) ws e
   unfolding keptAnswer talliedAnswer timedAnswer
-  as-hours h = go (isEnd e) refl
+  same-timed h = go (isEnd e) refl
     where
       list : Answer
       list = cond (listFits k ws) Done BadWindows
@@ -181,7 +181,7 @@ module _ (k : Kept) (ws : List Window) (e : Event) where
       go false c = skip _ _ _ _ (ap isDone (sym (plain-answer (k .timed) (k .area) ws e c)) ∙ h) refl
 
   -- without an objection all is as the site with its day has it, and an accepted end is counted
-  pub after-hours : isDone (objection k ws e) ≡ true
+  pub after-timed : isDone (objection k ws e) ≡ true
       → keptAfter k ws e
       ≡ record {
         timed = timedAfter (k .timed) (k .area) ws e;
@@ -189,10 +189,10 @@ module _ (k : Kept) (ws : List Window) (e : Event) where
         tally = tallyBehind (timedAfter (k .timed) (k .area) ws e .site) e (timedAnswer (k .timed) (k .area) ws e) (k .tally);
       }
   unfolding keptAfter nextKept
-  after-hours h = go (isDone (timedAnswer (k .timed) (k .area) ws e)) refl
+  after-timed h = go (isDone (timedAnswer (k .timed) (k .area) ws e)) refl
     where
       a : isDone (keptAnswer k ws e) ≡ isDone (timedAnswer (k .timed) (k .area) ws e)
-      a = ap isDone (as-hours h)
+      a = ap isDone (same-timed h)
 
       go : (b : Bool) → isDone (timedAnswer (k .timed) (k .area) ws e) ≡ b
           → keptAfter k ws e
@@ -301,7 +301,7 @@ module _ (s : Store) (d : Day) (l : List ℕ) (ws : List Window) (t : Tally) (ou
       timed = timedAnswer (timedIn s d) l ws e
 
       is-timed : stepAnswer s d l ws t out e ≡ timed
-      is-timed = answer-is ∙ as-hours kept ws e good
+      is-timed = answer-is ∙ same-timed kept ws e good
 
       stored-is : storedAnswer s d l ws e ≡ timed
       unfolding storedAnswer
@@ -340,7 +340,7 @@ module _ (s : Store) (d : Day) (l : List ℕ) (ws : List Window) (t : Tally) (ou
             tally = tallyBehind (timedAfter (timedIn s d) l ws e .site) e timed t;
           }
       unfolding stepKept
-      kept-is = skip _ _ _ _ few (after-hours kept ws e good)
+      kept-is = skip _ _ _ _ few (after-timed kept ws e good)
 
       -- done as the event of the site with its day is
       pub as-done : {a : Answer} {n : Day} {w b x o : List ℕ} {c : ℕ} {y : Tally} → TurnIs s d l ws e a n w b x → o ≡ putReport s l e out

@@ -30,7 +30,7 @@ noNodeReport = record { live = false; ground = record { rule = RequestMissing; m
 
 -- of no node
 abbrev pub noReport : Report
-noReport = record { told = replicate 32 noNodeReport }
+noReport = record { nodes = replicate 32 noNodeReport }
 
 -- what a member reports, where a close was accepted
 unfoldable pub memberReport : Bool → Member → NodeReport
@@ -38,7 +38,7 @@ memberReport accepted m = cond (accepted && isLive m) (record { live = true; gro
 
 -- the reports of all members, that of node j at index j - 1
 unfoldable pub reportOf : Bool → List Member → Report
-reportOf accepted ms = record { told = tab 32 (λ i. memberReport accepted (getD ms i nobody)) }
+reportOf accepted ms = record { nodes = tab 32 (λ i. memberReport accepted (getD ms i nobody)) }
 
 -- whether an event is a close, and its answer accepts it
 abbrev pub closesWith : Event → Answer → Bool
@@ -64,7 +64,7 @@ abbrev pub reportsSize : ℕ
 reportsSize = 64
 
 unfoldable pub reportBytes : Report → List ℕ
-reportBytes r = tab reportsSize (λ k. reportByte (getD (r .told) (k / 2) noNodeReport) (k % 2))
+reportBytes r = tab reportsSize (λ k. reportByte (getD (r .nodes) (k / 2) noNodeReport) (k % 2))
 
 -- an output after an event: the report of an accepted close stands at the start of an output that has room for it, and no other byte
 -- changes

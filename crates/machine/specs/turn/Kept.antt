@@ -12,7 +12,7 @@ use Rattle.site.specs.Steps.{areaAfter}
 use Rattle.site.specs.declared.Event.{Event}
 use Rattle.windows.specs.Windows.{listOk}
 use Rattle.windows.specs.declared.Window.{Window}
-use Rattle.machine.specs.hours.Hours.{Timed, nextTimed}
+use Rattle.machine.specs.timed.Timed.{Timed, nextTimed}
 use Rattle.tally.specs.Ends.{talliedAnswer, tallyAt}
 use Rattle.tally.specs.declared.Tally.{Tally}
 

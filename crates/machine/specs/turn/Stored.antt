@@ -13,7 +13,7 @@ use Rattle.site.specs.Answers.{areaSize}
 use Rattle.site.specs.declared.Event.{Event}
 use Rattle.windows.specs.declared.Window.{Window}
 use Rattle.machine.specs.Layout.{Store, tooShort}
-use Rattle.machine.specs.hours.Stored.{timedIn, timedStore}
+use Rattle.machine.specs.timed.Stored.{timedIn, timedStore}
 use Rattle.machine.specs.declared.Day.{Day}
 use Rattle.machine.specs.reports.Reports.{reportsSize, putReport}
 use Rattle.tally.specs.declared.Tally.{Tally}
@@ -39,7 +39,7 @@ stepAnswer s d area ws t out e = cond (lentTooShort s area out) NoRoom (keptAnsw
 abbrev pub stepAccepted : Store → Day → List ℕ → List Window → Tally → List ℕ → Event → Bool
 stepAccepted s d area ws t out e = isDone (stepAnswer s d area ws t out e)
 
--- the storage after an accepted event is that of module hours
+-- the storage after an accepted event is that of module timed
 unfoldable pub stepStore : Store → Day → List ℕ → List Window → Tally → List ℕ → Event → Store
 stepStore s d area ws t out e = cond (stepAccepted s d area ws t out e) (timedStore s d area ws e) s
 

@@ -1,6 +1,6 @@
 use mathlib.Core.Path.{ap, _∙_}
 use Rattle.machine.specs.Layout.{store}
-use Rattle.machine.specs.hours.Calls.{TimedState}
+use Rattle.machine.specs.timed.Calls.{TimedState}
 use Rattle.reduce.specs.Reduced.{gives}
 use Rattle.reduce.specs.Inner.{keptLines}
 use Rattle.reduce.proofs.Start.{begins}

@@ -2,7 +2,7 @@ use mathlib.Core.Path.{sym, ap, _∙_}
 use Prim.Native.Nat.{ℕ}
 use lib.ListN.{length-replicate}
 use Rattle.machine.specs.Layout.{store}
-use Rattle.machine.specs.hours.Calls.{TimedState}
+use Rattle.machine.specs.timed.Calls.{TimedState}
 use Rattle.reduce.specs.Inner.{givesFrom}
 use Rattle.reduce.proofs.Start.{begins}
 use borrow.Author.Needs.{needs}

@@ -4,9 +4,9 @@ use mathlib.Core.List.{List, []}
 use Rattle.windows.specs.declared.Window.{Window}
 use Rattle.windows.proofs.Copies.{no-words}
 use Rattle.machine.specs.Layout.{store}
-use Rattle.machine.specs.hours.Stored.{dayAnswer, timedSite}
+use Rattle.machine.specs.timed.Stored.{dayAnswer, timedSite}
 use Rattle.machine.specs.declared.DayAnswer.{DayAnswer}
-use Rattle.machine.proofs.hours.Stored.{as-timed}
+use Rattle.machine.proofs.timed.Stored.{as-timed}
 use Rattle.script.specs.declared.Parsed.{Parsed}
 use Rattle.script.specs.declared.Parsed.the-variants.{Good}
 use Rattle.desk.specs.listings.Output.{lineAfter}

@@ -25,8 +25,8 @@ use Rattle.machine.specs.Written.{nodesIn}
 use Rattle.machine.specs.steps.After.{nextStore, storageAnswer, storeAfter}
 use Rattle.windows.specs.Windows.{listOk}
 use Rattle.windows.specs.declared.Window.{Window}
-use Rattle.machine.specs.hours.Hours.{Timed, epochAfter, nextInDay, beginsEpoch, timedAnswer, givenBefore, nextTimed}
-use Rattle.machine.specs.hours.Stored.{timedIn, givenAt, givenStore, storedAnswer, begunStore, timedStore}
+use Rattle.machine.specs.timed.Timed.{Timed, epochAfter, nextInDay, beginsEpoch, timedAnswer, givenBefore, nextTimed}
+use Rattle.machine.specs.timed.Stored.{timedIn, givenAt, givenStore, storedAnswer, begunStore, timedStore}
 use Rattle.machine.specs.declared.Day.{Day}
 use Rattle.machine.specs.reports.Reports.{reportsSize, reportOf, reportBytes, putReport}
 use Rattle.tally.specs.Counting.{tallyOk}

@@ -23,11 +23,11 @@ use Rattle.machine.specs.steps.After.{sentStore, storageAnswer, storeAfter, are
 use Rattle.machine.proofs.steps.Whole.{as-site}
 use Rattle.machine.proofs.steps.Follows.{follows}
 use Rattle.windows.specs.declared.Window.{Window}
-use Rattle.machine.specs.hours.Hours.{Timed, nextInDay, inLastRound, nextTimed}
-use Rattle.machine.specs.hours.Stored.{timedIn, timedStore}
+use Rattle.machine.specs.timed.Timed.{Timed, nextInDay, inLastRound, nextTimed}
+use Rattle.machine.specs.timed.Stored.{timedIn, timedStore}
 use Rattle.machine.specs.declared.Day.{Day}
-use Rattle.machine.proofs.hours.Laws.{plain-after}
-use Rattle.machine.proofs.hours.Stored.{plain-turn}
+use Rattle.machine.proofs.timed.Laws.{plain-after}
+use Rattle.machine.proofs.timed.Stored.{plain-turn}
 use Rattle.machine.specs.reports.Reports.{putReport}
 use Rattle.machine.proofs.reports.Laws.{no-close-put}
 use Rattle.tally.specs.Counting.{tallyOk}

@@ -24,9 +24,9 @@ use Rattle.site.specs.declared.Event.the-variants.{Send, Hear, Close, Take, End
 use Rattle.machine.specs.Layout.{Store, wordsSize, bytesSize, siteIn}
 use Rattle.machine.proofs.Whole.{enough}
 use Rattle.windows.specs.declared.Window.{Window}
-use Rattle.machine.specs.hours.Hours.{Timed, firstEpoch, timedLoadAnswer, loadedTimed, timedAnswer, timedAfter}
-use Rattle.machine.specs.hours.Stored.{timedIn, storedLoadAnswer, timedLoadedStore, timedLoadedSite}
-use Rattle.machine.proofs.hours.Stored.{as-begun}
+use Rattle.machine.specs.timed.Timed.{Timed, firstEpoch, timedLoadAnswer, loadedTimed, timedAnswer, timedAfter}
+use Rattle.machine.specs.timed.Stored.{timedIn, storedLoadAnswer, timedLoadedStore, timedLoadedSite}
+use Rattle.machine.proofs.timed.Stored.{as-begun}
 use Rattle.machine.specs.turn.Kept.{firstRefusal}
 use Rattle.machine.specs.turn.Stored.{stepAnswer, stepAccepted, stepStore, stepReport, stepKept}
 use Rattle.machine.proofs.turn.Laws.{step-accepts, step-timed}

@@ -18,7 +18,7 @@ use Rattle.lists.proofs.Laws.{tab-ext, length-written, part-written, getD-zeros
 use Rattle.site.specs.Counts.{packets}
 use Rattle.machine.specs.Layout.{Store, store, wordsSize, bytesSize, siteIn}
 use Rattle.lists.proofs.Places.{in-written, behind-written}
-use Rattle.machine.specs.hours.Stored.{timedIn}
+use Rattle.machine.specs.timed.Stored.{timedIn}
 use Rattle.machine.specs.declared.Day.{Day}
 use Rattle.group.specs.Places.{topPlaces}
 use Rattle.group.specs.Group.{Empty, Taken, vacant, ownShare, beyond}

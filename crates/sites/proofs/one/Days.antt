@@ -11,7 +11,7 @@ use Rattle.lists.specs.Bytes.{window}
 use Rattle.machine.specs.Layout.{Store, wordsSize, rowSize, atConfig, atPlace, atSent, atPhase, configIn, siteIn}
 use Rattle.lists.proofs.Places.{Apart, apart-none, apart-set, apart-then}
 use Rattle.machine.proofs.Tail.{tail-members}
-use Rattle.machine.specs.hours.Stored.{timedIn}
+use Rattle.machine.specs.timed.Stored.{timedIn}
 use Rattle.machine.specs.declared.Day.{Day}
 use Rattle.tally.specs.declared.Tally.{Tally}
 use Rattle.machine.specs.turn.Stored.{keptIn}

@@ -36,11 +36,11 @@ use Rattle.windows.specs.Copies.{windowsIn, windowWords, listOf}
 use Rattle.windows.specs.declared.Window.{Window}
 use Rattle.windows.specs.declared.Windows.{Windows}
 use Rattle.windows.proofs.Copies.{taken-again}
-use Rattle.machine.specs.hours.Hours.{firstEpoch}
-use Rattle.machine.specs.hours.Stored.{storedLoadAnswer, storedLoad, timedLoadedStore, timedLoadedSite}
+use Rattle.machine.specs.timed.Timed.{firstEpoch}
+use Rattle.machine.specs.timed.Stored.{storedLoadAnswer, storedLoad, timedLoadedStore, timedLoadedSite}
 use Rattle.machine.specs.declared.Day.{Day}
 use Rattle.machine.specs.declared.DayAnswer.{DayAnswer}
-use Rattle.machine.proofs.hours.Stored.{as-begun}
+use Rattle.machine.proofs.timed.Stored.{as-begun}
 use Rattle.tally.specs.Counting.{firstTally}
 use Rattle.tally.specs.declared.Tally.{Tally}
 use Rattle.machine.specs.turn.Kept.{Kept}
@@ -320,7 +320,7 @@ module _ (s : Store) (f : Config) (rows : List ℕ) (D : ℕ) (ws : List Window)
       unfolding loadingOf storedLoadAnswer
       loading-is = skip _ _ _ _ h (hit _ _ _ (eq-eqb _ _ g)) ∙ sym (skip _ _ _ _ (not-short s h) refl)
 
-      -- what module hours of crate machine says of the load
+      -- what module timed of crate machine says of the load
       abbrev pub Loaded : Table → DayAnswer → List ℕ → List ℕ → Type 0
       Loaded t r w b = (r ≡ storedLoad s f t D ws)
           × ((w ≡ timedLoadedStore s f t D ws .words)

@@ -16,7 +16,7 @@ use Rattle.windows.specs.Windows.{listOk}
 use Rattle.windows.specs.Copies.{copyOf, listOf}
 use Rattle.windows.specs.declared.Window.{Window}
 use Rattle.machine.specs.Layout.{Store}
-use Rattle.machine.specs.hours.Hours.{timedLoadAnswer}
+use Rattle.machine.specs.timed.Timed.{timedLoadAnswer}
 use Rattle.machine.specs.declared.Day.{Day}
 use Rattle.tally.specs.Counting.{firstTally}
 use Rattle.tally.specs.declared.Tally.{Tally}

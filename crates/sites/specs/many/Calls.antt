@@ -17,8 +17,8 @@ use Rattle.site.specs.declared.Table.{Table}
 use Rattle.site.specs.declared.Event.{Event}
 use Rattle.machine.specs.Layout.{siteIn}
 use Rattle.windows.specs.declared.Window.{Window}
-use Rattle.machine.specs.hours.Hours.{firstEpoch, timedLoadAnswer}
-use Rattle.machine.specs.hours.Stored.{timedIn, timedLoadedStore}
+use Rattle.machine.specs.timed.Timed.{firstEpoch, timedLoadAnswer}
+use Rattle.machine.specs.timed.Stored.{timedIn, timedLoadedStore}
 use Rattle.tally.specs.Counting.{firstTally}
 use Rattle.tally.specs.declared.Tally.{Tally}
 use Rattle.machine.specs.turn.Kept.{Kept, firstRefusal}

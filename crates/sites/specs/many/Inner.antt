@@ -28,8 +28,8 @@ use Rattle.machine.specs.Layout.{Store, wordsSize, bytesSize, siteIn}
 use Rattle.machine.specs.steps.After.{sentStore, heardStore}
 use Rattle.windows.specs.Windows.{listOk}
 use Rattle.windows.specs.declared.Window.{Window}
-use Rattle.machine.specs.hours.Hours.{Timed, firstEpoch}
-use Rattle.machine.specs.hours.Stored.{timedIn, storedLoadAnswer, timedLoadedStore}
+use Rattle.machine.specs.timed.Timed.{Timed, firstEpoch}
+use Rattle.machine.specs.timed.Stored.{timedIn, storedLoadAnswer, timedLoadedStore}
 use Rattle.machine.specs.declared.Day.{Day}
 use Rattle.machine.specs.turn.Kept.{Kept, firstRefusal}
 use Rattle.machine.specs.turn.Stored.{stepAnswer, stepStore, stepReport, stepKept}

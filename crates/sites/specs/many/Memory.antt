@@ -13,7 +13,7 @@ use Rattle.lists.specs.Bytes.{span, written}
 use Rattle.node.specs.declared.Answer.{Answer}
 use Rattle.node.specs.declared.Answer.the-variants.{Done, NoSuchNode, NoRoom}
 use Rattle.machine.specs.Layout.{Store, store, wordsSize, bytesSize}
-use Rattle.machine.specs.hours.Stored.{timedIn}
+use Rattle.machine.specs.timed.Stored.{timedIn}
 use Rattle.machine.specs.declared.Day.{Day}
 use Rattle.windows.specs.declared.Window.{Window}
 use Rattle.tally.specs.declared.Tally.{Tally}

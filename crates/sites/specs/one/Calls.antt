@@ -23,8 +23,8 @@ use Rattle.site.specs.Model.{Member}
 use Rattle.windows.specs.declared.Window.{Window}
 use Rattle.machine.specs.Layout.{Store, tooShort, configIn}
 use Rattle.machine.specs.Loading.{memberRead}
-use Rattle.machine.specs.hours.Hours.{Timed, firstEpoch, timedLoadAnswer, loadedTimed}
-use Rattle.machine.specs.hours.Stored.{timedLoadedStore}
+use Rattle.machine.specs.timed.Timed.{Timed, firstEpoch, timedLoadAnswer, loadedTimed}
+use Rattle.machine.specs.timed.Stored.{timedLoadedStore}
 use Rattle.tally.specs.Counting.{firstTally}
 use Rattle.tally.specs.declared.Tally.{Tally}
 use Rattle.machine.specs.turn.Kept.{Kept}

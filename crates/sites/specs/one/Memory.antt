@@ -6,8 +6,8 @@ use Prim.Native.Nat.{ℕ, _+_}
 use lib.Dec.{ltb}
 use lib.ListN.{length, getD, set}
 use Rattle.machine.specs.Layout.{Store, store, wordsSize, bytesSize}
-use Rattle.machine.specs.hours.Stored.{timedIn}
-use Rattle.machine.specs.hours.Hours.{Timed}
+use Rattle.machine.specs.timed.Stored.{timedIn}
+use Rattle.machine.specs.timed.Timed.{Timed}
 use Rattle.machine.specs.declared.Day.{Day}
 use Rattle.tally.specs.declared.Tally.{Tally}
 use Rattle.machine.specs.turn.Kept.{Kept}

@@ -1,3 +1,4 @@
+-- After i turns the first i owners are written with their commas, and the text of the others is left.
 use lib.ListN.{length, drop}
 use Rattle.lists.proofs.Chain.{Left, start, finish, end, leftover, none, recast}
 use Rattle.desk.specs.listing.Rows.{moreOwners}

@@ -1,3 +1,4 @@
+-- The row is made in a buffer of its own, which is long enough for any, and then tried at its place: all of it or nothing.
 use mathlib.Core.List.{List}
 use mathlib.Core.Path.{_≡_, sym, _∙_}
 use Prim.Native.Nat.{ℕ, min, _≤_}

@@ -9,8 +9,8 @@ use Rattle.desk.proofs.listings.event_report.Tie as tie
 enum-told : tie.Need-enum-told
 enum-told c = search needs
 
-nothing-requires : tie.Need-nothing-requires
-nothing-requires c κs = search needs
+no-report-requires : tie.Need-no-report-requires
+no-report-requires c κs = search needs
 
 enum-known-v : tie.Need-enum-known-v
 enum-known-v c = search needs
@@ -21,7 +21,7 @@ node-report-requires c κs = search needs
 returns : tie.Need-returns
 returns c =
     let a = c .before .before .before .before .before .before .args in
-    c .nothing .ensures ∙ sym (ap (λ (x : View). eventNodeReport x (store (a .words .now) (a .bytes .now)) (a .area .now) (a .e))
+    c .no-report .ensures ∙ sym (ap (λ (x : View). eventNodeReport x (store (a .words .now) (a .bytes .now)) (a .area .now) (a .e))
     (c .before .enum-told .given .1))
 
 returns-2 : tie.Need-returns-2
@@ -35,7 +35,7 @@ event-report-spec =
     tie.close
     (tie.spec
     enum-told
-    nothing-requires
+    no-report-requires
     enum-known-v
     node-report-requires
     returns

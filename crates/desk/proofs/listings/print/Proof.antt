@@ -1,3 +1,4 @@
+-- Each way out prints one case of the text: too little memory, a script too long, one that does not open, one that runs.
 use mathlib.Core.Path.{sym, _∙_}
 use native.Mathlib.Omega.{arith}
 use lib.ListN.{length}

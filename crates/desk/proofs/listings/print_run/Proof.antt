@@ -1,3 +1,4 @@
+-- A load that is refused prints line 0 alone; one that is accepted leaves the site that the lines run on, and room for what they print.
 use mathlib.Core.Path.{sym, ap, _∙_}
 use Prim.Native.Nat.{_≤_}
 use native.Mathlib.Omega.{arith}

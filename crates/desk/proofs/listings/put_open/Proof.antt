@@ -7,8 +7,8 @@ use borrow.Author.Needs.{needs}
 use Rattle.desk.proofs.listings.put_open.Statement.{statement}
 use Rattle.desk.proofs.listings.put_open.Tie as tie
 
-nothing-requires : tie.Need-nothing-requires
-nothing-requires c κs = search needs
+no-report-requires : tie.Need-no-report-requires
+no-report-requires c κs = search needs
 
 put-line-requires : tie.Need-put-line-requires
 put-line-requires c κs = search needs
@@ -19,8 +19,8 @@ same-length c = search needs
 returns : tie.Need-returns
 returns c =
     let a = c .before .before .before .before .before .before .args in
-    retry (ap (λ (t : NodeReport). lineText (a .v) (a .n) OutOfRange t) (c .before .before .before .nothing .ensures))
+    retry (ap (λ (t : NodeReport). lineText (a .v) (a .n) OutOfRange t) (c .before .before .before .no-report .ensures))
     (c .before .before .put-line .ensures)
 
 pub put-open-spec : {M : Type 1} → statement M
-put-open-spec = tie.close (tie.spec nothing-requires put-line-requires same-length returns)
+put-open-spec = tie.close (tie.spec no-report-requires put-line-requires same-length returns)

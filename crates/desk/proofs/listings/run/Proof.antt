@@ -1,3 +1,5 @@
+-- What is printed of the lines read so far, with what is printed of those to come, is what all of them print; the site in storage is the one
+-- after the lines so far.
 use mathlib.Core.Path.{_≡_, refl, sym, ap, _∙_}
 use mathlib.Core.Bool.{true}
 use Prim.Native.Nat.{_≤_, _-_, _+_}
@@ -8,7 +10,7 @@ use Rattle.lists.proofs.Chain.{Left, start, step, end, leftover, finish-by}
 use Rattle.windows.specs.Windows.{listOk}
 use Rattle.windows.specs.Copies.{windowsIn}
 use Rattle.machine.specs.Layout.{store, siteIn, wordsSize, bytesSize}
-use Rattle.machine.specs.hours.Calls.{TimedState}
+use Rattle.machine.specs.timed.Calls.{TimedState}
 use Rattle.script.proofs.lines.Lines.{whole}
 use Rattle.desk.specs.listings.Output.{eventsIn, runBy}
 use Rattle.desk.specs.listings.Inner.{runStateIn, linesText}

@@ -1,3 +1,4 @@
+-- The length is the printed one where all was printed, and the one before where the call was refused.
 use mathlib.Core.Path.{_≡_, refl, sym, ap, _∙_}
 use mathlib.Core.List.{List}
 use Prim.Native.Nat.{ℕ, _≤_, _*_}

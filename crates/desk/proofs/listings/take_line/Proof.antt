@@ -1,9 +1,10 @@
+-- A line that is no event is refused as 2; one that is an event is the step of the site, whose list the load has tested.
 use mathlib.Core.Path.{sym, ap, _∙_}
 use Rattle.node.specs.declared.Answer.the-variants.{OutOfRange}
 use Rattle.windows.specs.Copies.{windowsIn}
 use Rattle.machine.specs.Layout.{store}
-use Rattle.machine.proofs.hours.Stored.{Long, as-timed}
-use Rattle.machine.proofs.hours.Known.{keeps, by-list}
+use Rattle.machine.proofs.timed.Stored.{Long, as-timed}
+use Rattle.machine.proofs.timed.Known.{keeps, by-list}
 use Rattle.script.specs.declared.Parsed.{Parsed}
 use Rattle.desk.specs.listings.Output.{lineAfter}
 use Rattle.desk.specs.listings.Inner.{runStateIn, lineTaken}
@@ -14,8 +15,8 @@ use Rattle.desk.proofs.listings.take_line.Tie as tie
 enum-told : tie.Need-enum-told
 enum-told c = search needs
 
-nothing-requires : tie.Need-nothing-requires
-nothing-requires c κs = search needs
+no-report-requires : tie.Need-no-report-requires
+no-report-requires c κs = search needs
 
 enum-known-p : tie.Need-enum-known-p
 enum-known-p c = search needs
@@ -32,7 +33,7 @@ returns c =
     let s = store (a .words .now) (a .bytes .now) in
     let x = runStateIn s (a .day) (a .area .now) in
     let e = c .before .enum-told .given .1 in (
-      (λ i. record { turned = record { answer = OutOfRange; day = a .day }; told = c .nothing .ensures i })
+      (λ i. record { turned = record { answer = OutOfRange; day = a .day }; report = c .no-report .ensures i })
           ∙ sym (ap (lineTaken (a .v) (windowsIn (a .w .now)) s (a .day) (a .area .now)) e),
       (
         sym (ap (λ (p : Parsed). lineAfter (windowsIn (a .w .now)) x p .timed .site) e),
@@ -65,7 +66,7 @@ returns-2 c =
     let o = by-list s (a .day) (a .area .now) (windowsIn (a .w .now)) v (keeps s (a .day) (windowsIn (a .w .now)) v m (c21 .pre .2))
     (c6 .step-tested .ensures) in
     let t = as-timed s (a .day) (a .area .now) (windowsIn (a .w .now)) v m in (
-      (λ i. record { turned = (o .0 ∙ t .0) i; told = c10 .event-report .ensures i })
+      (λ i. record { turned = (o .0 ∙ t .0) i; report = c10 .event-report .ensures i })
           ∙ sym (ap (lineTaken (a .v) (windowsIn (a .w .now)) s (a .day) (a .area .now)) e),
       (
         o .1 .1 .1 .0 ∙ t .1 .0 ∙ sym (ap (λ (p : Parsed). lineAfter (windowsIn (a .w .now)) x p .timed .site) e),
@@ -78,7 +79,7 @@ take-line-spec =
     tie.close
     (tie.spec
     enum-told
-    nothing-requires
+    no-report-requires
     enum-known-p
     event-report-requires
     step-tested-requires

@@ -9,14 +9,14 @@ use Rattle.machine.proofs.reports.node_report.Tie as tie
 reports-requires : tie.Need-reports-requires
 reports-requires c κs = search needs
 
-nothing-requires : tie.Need-nothing-requires
-nothing-requires c κs = search needs
+no-report-requires : tie.Need-no-report-requires
+no-report-requires c κs = search needs
 
 returns : tie.Need-returns
 returns c =
     let a = c .before .before .before .before .before .before .args in
     let r = c .before .before .reports in
-    c .nothing .ensures ∙ none-told (store (a .words .now) (a .bytes .now)) (a .area .now) (a .e) (a .j)
+    c .no-report .ensures ∙ none-told (store (a .words .now) (a .bytes .now)) (a .area .now) (a .e) (a .j)
     (sym (r .ensures) ∙ not-true (r .result) (c .before .if1 .taken))
 
 tell-requires : tie.Need-tell-requires
@@ -34,4 +34,4 @@ returns-2 c =
 pub node-report-spec : {M : Type 1} → statement M
 node-report-spec =
     tie.close
-    (tie.spec reports-requires nothing-requires returns tell-requires returns-2)
+    (tie.spec reports-requires no-report-requires returns tell-requires returns-2)

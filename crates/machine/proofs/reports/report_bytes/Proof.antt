@@ -12,13 +12,13 @@ use Rattle.machine.proofs.reports.report_bytes.Statement.{statement}
 use Rattle.machine.proofs.reports.report_bytes.Tie as tie
 
 abbrev each : List NodeReport → ℕ → ℕ
-each told k = reportByte (getD told (k / 2) noNodeReport) (k % 2)
+each nodes k = reportByte (getD nodes (k / 2) noNodeReport) (k % 2)
 
 abbrev Inv-loop : tie.InvT-loop
-Inv-loop told l₀ k₀ l k = (k ≤ 64) × (length l₀ ≡ 64) × (l ≡ tab k (each told) ++ drop k l₀)
+Inv-loop nodes l₀ k₀ l k = (k ≤ 64) × (length l₀ ≡ 64) × (l ≡ tab k (each nodes) ++ drop k l₀)
 
 abbrev μ-loop : tie.MeasureT-loop
-μ-loop told l₀ k₀ l k = 64 - k
+μ-loop nodes l₀ k₀ l k = 64 - k
 
 loop-holds : tie.Need-loop-holds Inv-loop μ-loop
 loop-holds c = (omega arith, search needs, fill-none _ _)
@@ -46,7 +46,7 @@ loop-again c =
     let l = c .before .before .before .loop in (
       omega arith,
       l .inv .1,
-      fill-more _ (each (c .before .before .before .before .before .args .r .told)) _ _ _ (omega arith) (l .inv .2)
+      fill-more _ (each (c .before .before .before .before .before .args .r .nodes)) _ _ _ (omega arith) (l .inv .2)
           (c .report-byte .ensures),
     )
 
@@ -54,7 +54,7 @@ returns : tie.Need-returns Inv-loop μ-loop
 unfolding reportBytes
 returns c =
     let l = c .before .loop in
-    fill-end _ 64 (each (c .before .before .before .args .r .told)) _ _ (l .inv .2) (omega arith) (omega arith)
+    fill-end _ 64 (each (c .before .before .before .args .r .nodes)) _ _ (l .inv .2) (omega arith) (omega arith)
 
 pub report-bytes-spec : {M : Type 1} → statement M
 report-bytes-spec =

@@ -34,12 +34,12 @@ returns c =
     let ground = c .ground .ensures ∙ ap (λ (x : Core). groundOf (bare x)) (c .before .core .ensures) ∙ ground-bare (m .node) in
     ap telling ground ∙ sym (hit _ _ _ (sym (c .before .before .before .is-live .ensures) ∙ c .before .before .if1 .taken))
 
-nothing-requires : tie.Need-nothing-requires
-nothing-requires c κs = search needs
+no-report-requires : tie.Need-no-report-requires
+no-report-requires c κs = search needs
 
 returns-2 : tie.Need-returns-2
 unfolding memberReport
-returns-2 c = c .nothing .ensures ∙ sym (skip _ _ _ _ (sym (c .before .before .is-live .ensures) ∙ c .before .if1 .left) refl)
+returns-2 c = c .no-report .ensures ∙ sym (skip _ _ _ _ (sym (c .before .before .is-live .ensures) ∙ c .before .if1 .left) refl)
 
 pub tell-spec : {M : Type 1} → statement M
-tell-spec = tie.close (tie.spec is-live-requires core-requires ground-requires returns nothing-requires returns-2)
+tell-spec = tie.close (tie.spec is-live-requires core-requires ground-requires returns no-report-requires returns-2)

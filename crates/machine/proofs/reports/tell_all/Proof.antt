@@ -21,16 +21,16 @@ abbrev each : Store → ℕ → NodeReport
 each s i = memberReport true (getD (siteIn s .members) i nobody)
 
 abbrev all : List NodeReport → Report
-all ts = record { told = ts }
+all ts = record { nodes = ts }
 
 abbrev Inv-loop : tie.InvT-loop
-Inv-loop words bytes told₀ i₀ told i = (i ≤ 32) × (length told₀ ≡ 32) × (told ≡ tab i (each (store words bytes)) ++ drop i told₀)
+Inv-loop words bytes nodes₀ i₀ nodes i = (i ≤ 32) × (length nodes₀ ≡ 32) × (nodes ≡ tab i (each (store words bytes)) ++ drop i nodes₀)
 
 abbrev μ-loop : tie.MeasureT-loop
-μ-loop words bytes told₀ i₀ told i = 32 - i
+μ-loop words bytes nodes₀ i₀ nodes i = 32 - i
 
-nothing-requires : tie.Need-nothing-requires Inv-loop μ-loop
-nothing-requires c κs = search needs
+no-report-requires : tie.Need-no-report-requires Inv-loop μ-loop
+no-report-requires c κs = search needs
 
 loop-holds : tie.Need-loop-holds Inv-loop μ-loop
 loop-holds c = (omega arith, search needs, fill-none _ _)
@@ -44,11 +44,11 @@ add-tell c = omega arith
 tell-requires : tie.Need-tell-requires Inv-loop μ-loop
 tell-requires c κs = search needs
 
-mul-told : tie.Need-mul-told Inv-loop μ-loop
-mul-told c = omega arith
+mul-nodes : tie.Need-mul-nodes Inv-loop μ-loop
+mul-nodes c = omega arith
 
-array-set-from-told : tie.Need-array-set-from-told Inv-loop μ-loop
-array-set-from-told c = omega arith
+array-set-from-nodes : tie.Need-array-set-from-nodes Inv-loop μ-loop
+array-set-from-nodes c = omega arith
 
 add-i : tie.Need-add-i Inv-loop μ-loop
 add-i c = omega arith
@@ -81,13 +81,13 @@ tell-all-spec =
     (tie.spec
     Inv-loop
     μ-loop
-    nothing-requires
+    no-report-requires
     loop-holds
     cast-tell
     add-tell
     tell-requires
-    mul-told
-    array-set-from-told
+    mul-nodes
+    array-set-from-nodes
     add-i
     loop-less
     loop-again

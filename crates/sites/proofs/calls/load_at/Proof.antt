@@ -11,7 +11,7 @@ use Rattle.node.specs.Answers.{isDone, number}
 use Rattle.node.proofs.Answers.{done-is}
 use Rattle.machine.specs.Layout.{Store, store, wordsSize, bytesSize, siteIn}
 use Rattle.windows.specs.Copies.{windowsIn}
-use Rattle.machine.specs.hours.Stored.{storedLoadAnswer, timedLoadedStore, timedLoadedSite}
+use Rattle.machine.specs.timed.Stored.{storedLoadAnswer, timedLoadedStore, timedLoadedSite}
 use Rattle.machine.specs.declared.DayAnswer.{DayAnswer}
 use Rattle.group.specs.Places.{topPlaces, freed}
 use Rattle.group.proofs.Places.{length-freed}

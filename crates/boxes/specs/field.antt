@@ -1,4 +1,0 @@
--- Boxes in the field, each with its own node area, and demand 3 of them.
-pub mod Field
-pub mod Past
-pub mod Claim

@@ -1,5 +1,0 @@
--- Demands by the hour: a site with its day.
-pub mod Hours
-pub mod Calls
-pub mod Stored
-pub mod Inner
