@@ -17,3 +17,10 @@ pub struct Tallied {
     pub code: u32,
     pub tally: Tally,
 }
+
+// An event as a group looks at it: a send with its node, a hear with its node and packet, or neither.
+enum Part {
+    Sends(u32),
+    Hears(u32, u32),
+    Neither,
+}

@@ -15,6 +15,7 @@ ghost use Rattle.sites.specs.many.Memory.{lent};
 ghost use Rattle.sites.specs.many.Inner.{isHear, oneSite, ownBy, stepResultBy, storeBy, siteBy, placesBy, areaBy, reportBy};
 ghost use Rattle.sites.specs.many.Inner.{listAnswer};
 ghost use Rattle.sites.specs.many.Inner.{sendNumber, sendStore, sendPlaces, sendArea, groupHearAnswer, hearStore, heardBytes};
+use crate::Part;
 use crate::kinds;
 use crate::places;
 use machine::Day;
@@ -211,32 +212,26 @@ pub(crate) fn turn(
             tally: t,
         };
     }
-    if kinds::is_send(e) {
-        let o = listed(words, bytes, day, w);
-        let code = send(words, bytes, list, area, a, o, full, kinds::node_of(e));
-        return StepResult {
-            code,
-            day,
-            tally: t,
-        };
+    let k = kinds::taken_apart(e);
+    match k {
+        Part::Sends(j) => {
+            let o = listed(words, bytes, day, w);
+            let code = send(words, bytes, list, area, a, o, full, j);
+            StepResult {
+                code,
+                day,
+                tally: t,
+            }
+        }
+        Part::Hears(j, p) => {
+            let o = listed(words, bytes, day, w);
+            let code = hear(words, bytes, list, area, a, o, j, p);
+            StepResult {
+                code,
+                day,
+                tally: t,
+            }
+        }
+        Part::Neither => other(words, bytes, list, area, out, day, a, e, w, t),
     }
-    if kinds::is_hear(e) {
-        let o = listed(words, bytes, day, w);
-        let code = hear(
-            words,
-            bytes,
-            list,
-            area,
-            a,
-            o,
-            kinds::node_of(e),
-            kinds::packet_in(e),
-        );
-        return StepResult {
-            code,
-            day,
-            tally: t,
-        };
-    }
-    other(words, bytes, list, area, out, day, a, e, w, t)
 }

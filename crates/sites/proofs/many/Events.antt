@@ -13,7 +13,7 @@ use Rattle.node.specs.declared.Answer.{Answer}
 use Rattle.node.specs.declared.Answer.the-variants.{Done, NotANode, NoRoom}
 use Rattle.node.proofs.Answers.{done-is, both-done}
 use Rattle.site.specs.Answers.{areaSize, siteSend, siteHear, answerOf}
-use Rattle.site.specs.Events.{isClose, isEnd, actor}
+use Rattle.site.specs.Events.{isClose, isEnd}
 use Rattle.site.specs.Model.{Site}
 use Rattle.site.specs.declared.Event.{Event}
 use Rattle.site.specs.declared.Event.the-variants.{Send, Hear, Close, Take, End, Want, Crash, Restart}
@@ -44,32 +44,45 @@ use Rattle.group.specs.Calls.{isSend, crowded}
 use Rattle.group.specs.Steps.{nextPlaces, nextBytes}
 use Rattle.group.proofs.Parts.{own-long}
 use Rattle.sites.specs.many.Memory.{Lent}
-use Rattle.sites.specs.many.Inner.{isHear, eventPacket, OneSite, around, timedOf, sentCount, ownAreaOf, keptBy, plainBy}
+use Rattle.sites.specs.many.Inner.{isHear, partOf, OneSite, around, timedOf, sentCount, ownAreaOf, keptBy, plainBy}
 use Rattle.sites.specs.many.Inner.{shortBy, takenBy}
+use Rattle.sites.specs.declared.Part.{Part}
+use Rattle.sites.specs.declared.Part.the-variants.{Sends, Hears, Neither}
 use Rattle.sites.specs.many.Inner.{stepResultBy, storeBy, siteBy, placesBy, areaBy, reportBy, listAnswer, groupSendAnswer, sendShort}
 use Rattle.sites.specs.many.Inner.{sendTaken}
 use Rattle.sites.specs.many.Inner.{sendNumber, sendStore, sendPlaces, sendArea, groupHearAnswer, hearStore}
 use Rattle.sites.proofs.many.Areas.{timed-by, tally-by, area-by, step-answer, step-store, step-report, kept-timed, kept-tally}
 
-pub send-is : (e : Event) → isSend e ≡ true → Send (actor e) ≡ e
-send-is (Send j) h = refl
-send-is (Hear j p) h = clash (isSend (Hear j p)) h refl
-send-is Close h = clash (isSend Close) h refl
-send-is (Take j i) h = clash (isSend (Take j i)) h refl
-send-is End h = clash (isSend End) h refl
-send-is (Want j d) h = clash (isSend (Want j d)) h refl
-send-is (Crash j) h = clash (isSend (Crash j)) h refl
-send-is (Restart j flags) h = clash (isSend (Restart j flags)) h refl
+-- the event that a part is of; neither a send nor a hear tells which
+abbrev pub whole : Part → Event → Event
+whole (Sends j) e = Send j
+whole (Hears j p) e = Hear j p
+whole Neither e = e
 
-pub hear-is : (e : Event) → isHear e ≡ true → Hear (actor e) (eventPacket e) ≡ e
-hear-is (Send j) h = clash (isHear (Send j)) h refl
-hear-is (Hear j p) h = refl
-hear-is Close h = clash (isHear Close) h refl
-hear-is (Take j i) h = clash (isHear (Take j i)) h refl
-hear-is End h = clash (isHear End) h refl
-hear-is (Want j d) h = clash (isHear (Want j d)) h refl
-hear-is (Crash j) h = clash (isHear (Crash j)) h refl
-hear-is (Restart j flags) h = clash (isHear (Restart j flags)) h refl
+pub whole-is : (e : Event) → whole (partOf e) e ≡ e
+whole-is (Send j) = refl
+whole-is (Hear j p) = refl
+whole-is Close = refl
+whole-is (Take j i) = refl
+whole-is End = refl
+whole-is (Want j d) = refl
+whole-is (Crash j) = refl
+whole-is (Restart j flags) = refl
+
+abbrev isNeither : Part → Bool
+isNeither (Sends j) = false
+isNeither (Hears j p) = false
+isNeither Neither = true
+
+pub neither-is : (e : Event) → partOf e ≡ Neither → (isSend e ≡ false) × (isHear e ≡ false)
+neither-is (Send j) h = clash (isNeither (Sends j)) (ap isNeither h) refl
+neither-is (Hear j p) h = clash (isNeither (Hears j p)) (ap isNeither h) refl
+neither-is Close h = (refl, refl)
+neither-is (Take j i) h = (refl, refl)
+neither-is End h = (refl, refl)
+neither-is (Want j d) h = (refl, refl)
+neither-is (Crash j) h = (refl, refl)
+neither-is (Restart j flags) h = (refl, refl)
 
 and-true : (b : Bool) → (b && true) ≡ b
 and-true true = refl

@@ -38,9 +38,11 @@ use Rattle.group.specs.Places.{entry, place, placeFilled, freed}
 use Rattle.group.specs.Group.{Group, ownShare, commonShare, beyond, ownArea}
 use Rattle.group.specs.Calls.{isSend, crowded}
 use Rattle.group.specs.Steps.{nextPlaces, nextBytes}
+use Rattle.sites.specs.declared.Part.{Part}
+use Rattle.sites.specs.declared.Part.the-variants.{Sends, Hears, Neither}
 use Rattle.sites.specs.many.Memory.{Memory, memory, Lent, storeAt, dayAt, siteSlotIn, placesIn, storeWords, storeBytes, tableWith}
 
--- whether an event is a hear, and the packet that it hears
+-- whether an event is a hear
 abbrev pub isHear : Event → Bool
 isHear (Send j) = false
 isHear (Hear j p) = true
@@ -51,15 +53,16 @@ isHear (Want j d) = false
 isHear (Crash j) = false
 isHear (Restart j flags) = false
 
-abbrev pub eventPacket : Event → ℕ
-eventPacket (Send j) = 0
-eventPacket (Hear j p) = p
-eventPacket Close = 0
-eventPacket (Take j i) = 0
-eventPacket End = 0
-eventPacket (Want j d) = 0
-eventPacket (Crash j) = 0
-eventPacket (Restart j flags) = 0
+-- an event as a group looks at it: a send, a hear, or neither
+abbrev pub partOf : Event → Part
+partOf (Send j) = Sends j
+partOf (Hear j p) = Hears j p
+partOf Close = Neither
+partOf (Take j i) = Neither
+partOf End = Neither
+partOf (Want j d) = Neither
+partOf (Crash j) = Neither
+partOf (Restart j flags) = Neither
 
 -- a site by itself: its storage and day, its number, the places and the area
 pub record OneSite : Type 0 where
