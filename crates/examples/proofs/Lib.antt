@@ -1,4 +1,5 @@
 -- Computed examples.
+pub mod cases
 pub mod witness
 pub mod rows
 pub mod grounds

@@ -36,10 +36,10 @@ use Rattle.histories.specs.Reached.{reached, pastOf}
 use Rattle.node.specs.Begin.{restartAnswer}
 use Rattle.node.specs.Steps.{wantedNode}
 use Rattle.recovery.specs.Calm.{siteMember, liveIn, liveSet, unwatched, allHeard, watchAfter, watched, epochEnd, whole}
-use Rattle.cases.specs.Histories.{area, trio, allAt, calmBody, ship, halves}
-use Rattle.cases.specs.Recoveries.{moment, pastThen, strict, twoRounds, foreTalk, aftLost, darkened, threeHold, determinedIn}
-use Rattle.cases.specs.Recoveries.{Recoveries}
-use Rattle.cases.proofs.Tests.{eachLive, each-live, isReady, ready-by, isCalm, calm-by}
+use Rattle.examples.specs.cases.Histories.{area, trio, allAt, calmBody, ship, halves}
+use Rattle.examples.specs.cases.Recoveries.{moment, pastThen, strict, twoRounds, foreTalk, aftLost, darkened, threeHold, determinedIn}
+use Rattle.examples.specs.cases.Recoveries.{Recoveries}
+use Rattle.examples.proofs.cases.Tests.{eachLive, each-live, isReady, ready-by, isCalm, calm-by}
 
 -- the tests, computed
 again-ready : (pastThen trio (whole calmBody) .start ≡ moment trio (whole calmBody) .site)

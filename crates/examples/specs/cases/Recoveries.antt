@@ -17,7 +17,7 @@ use Rattle.site.specs.declared.Event.the-variants.{Send, Hear, Close, End, Want
 use Rattle.histories.specs.Past.{Determination, Past}
 use Rattle.histories.specs.Reached.{reached, pastOf, EndsEpoch}
 use Rattle.recovery.specs.Calm.{liveSet, unwatched, watched, Ready, Calm, epochEnd, whole, NobodyJoins, SameAsked}
-use Rattle.cases.specs.Histories.{area, trio, allAt, calmBody, ship, halves}
+use Rattle.examples.specs.cases.Histories.{area, trio, allAt, calmBody, ship, halves}
 
 -- a moment of a history
 abbrev pub moment : Config → List Event → RunState

@@ -1,5 +1,5 @@
 -- Histories of small sites, each a list of events from an accepted table: what is determined in them, and that the hypotheses of the
--- theorems over lists can be met. proofs/Computed.antt computes each of them by the definitions.
+-- theorems over lists can be met. proofs/cases/Computed.antt computes each of them by the definitions.
 -- Assumes nothing.
 use mathlib.Core.Path.{_≡_}
 use mathlib.Core.Bool.{Bool, true, false}

@@ -42,8 +42,8 @@ use Rattle.histories.specs.Past.{determinedAt, pastAfter, trace}
 use Rattle.agreement.specs.Demand.{determinations}
 use Rattle.histories.specs.Reached.{reached, pastOf}
 use Rattle.recovery.specs.Calm.{siteMember, liveIn, liveSet, unwatched, allHeard, watchAfter, watched, Ready, Calm, epochEnd, NobodyJoins}
-use Rattle.cases.specs.Histories.{area, summary, allTalk, informedThree, aloneConfig, aloneTable, trio, allAt, wholeCase, calmBody}
-use Rattle.cases.specs.Histories.{ship, halves, halvesTalk, pair, pairTable, oneLeft, Histories}
+use Rattle.examples.specs.cases.Histories.{area, summary, allTalk, informedThree, aloneConfig, aloneTable, trio, allAt, wholeCase}
+use Rattle.examples.specs.cases.Histories.{calmBody, ship, halves, halvesTalk, pair, pairTable, oneLeft, Histories}
 
 loads : (loadAnswer aloneConfig aloneTable ≡ Done) × (loadAnswer trio (allAt 1) ≡ Done) × (loadAnswer trio (allAt 0) ≡ Done)
 unfolding loadAnswer tableOk rowOk startAnswer configOk flagsOk allBelow
