@@ -10,7 +10,7 @@ use borrow.Author.Tests.{le-leb, eq-eqb, eqb-true, eqb-false}
 use lib.ListN.{length, getD}
 use Rattle.words.proofs.Tests.{and-left, and-right}
 use Rattle.area.specs.Area.{decoded, valid}
-use Rattle.lookup.specs.Lookup.{demandAfter}
+use Rattle.host.specs.lookup.Lookup.{demandAfter}
 use Rattle.boxes.proofs.service.Proved.{service}
 use Rattle.site.specs.Members.{outside}
 use Rattle.node.specs.declared.Config.{Config}

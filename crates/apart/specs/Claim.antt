@@ -27,7 +27,7 @@ use Rattle.site.specs.Members.{memberAt}
 use Rattle.site.specs.Steps.{endMember}
 use Rattle.windows.specs.declared.Window.{Window}
 use Rattle.machine.specs.timed.Timed.{givenMember}
-use Rattle.lookup.specs.Lookup.{demandAnswer, demandAfter}
+use Rattle.host.specs.lookup.Lookup.{demandAnswer, demandAfter}
 use Rattle.boxes.specs.service.Service.{boxMember}
 use Rattle.histories.specs.Reached.{begin}
 use Rattle.agreement.specs.Demand.{final}

@@ -3,3 +3,5 @@ pub mod Report
 pub mod Calls
 pub mod Owners
 pub mod Slots
+pub mod lookup
+pub mod version

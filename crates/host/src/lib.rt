@@ -1,6 +1,14 @@
-// The node behind a lent area of bytes, for the C service in the box.
+// What the C service in the box calls: the node behind a lent area of bytes (calls), the demand of an epoch (lookup), the release (version).
 mod calls;
+mod lookup;
 mod steps;
+mod version;
+
+// What a lookup returns, and the demand that it writes.
+pub struct Found {
+    pub code: u32,
+    pub demand: u32,
+}
 
 // The bytes of what a box acts on.
 pub const REPORT: usize = 96;

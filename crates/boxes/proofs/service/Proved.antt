@@ -37,7 +37,7 @@ use Rattle.windows.specs.declared.Window.{Window}
 use Rattle.windows.proofs.Laws.{due-given, due-kept, due-range, due-small}
 use Rattle.machine.specs.timed.Timed.{givenRow, givenTable, timedLoadAnswer, loadedTimed}
 use Rattle.machine.proofs.timed.Laws.{wanted-same, loaded-site}
-use Rattle.lookup.specs.Lookup.{nodesOk, demandAnswer, demandAfter}
+use Rattle.host.specs.lookup.Lookup.{nodesOk, demandAnswer, demandAfter}
 use Rattle.boxes.specs.service.Service.{rowOf, firstDemand, Service}
 
 -- an accepted lookup has a list that keeps the rules, and gives what is due

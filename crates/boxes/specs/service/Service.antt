@@ -19,7 +19,7 @@ use Rattle.site.specs.declared.Table.{Table}
 use Rattle.site.specs.Model.{Member}
 use Rattle.windows.specs.declared.Window.{Window}
 use Rattle.machine.specs.timed.Timed.{givenMember, timedLoadAnswer, loadedTimed}
-use Rattle.lookup.specs.Lookup.{demandAnswer, demandAfter}
+use Rattle.host.specs.lookup.Lookup.{demandAnswer, demandAfter}
 
 -- a node area as the member of a site that is up
 abbrev pub boxMember : List ℕ → Member

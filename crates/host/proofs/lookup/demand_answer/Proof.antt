@@ -3,8 +3,8 @@ use mathlib.Core.Bool.{not}
 use borrow.Author.Needs.{needs}
 use borrow.Author.Tests.{lt-ltb, le-ltb}
 use Rattle.words.proofs.Tests.{hit, skip}
-use Rattle.lookup.proofs.demand_answer.Statement.{statement}
-use Rattle.lookup.proofs.demand_answer.Tie as tie
+use Rattle.host.proofs.lookup.demand_answer.Statement.{statement}
+use Rattle.host.proofs.lookup.demand_answer.Tie as tie
 
 nodes-ok-requires : tie.Need-nodes-ok-requires
 nodes-ok-requires c κs = search needs

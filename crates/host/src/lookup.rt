@@ -1,18 +1,13 @@
 // The demand that a box asks for as an epoch begins, looked up in a lent list of windows.
 ghost use mathlib.Core.Path.{_≡_};
 ghost use Rattle.node.specs.Answers.{number};
-ghost use Rattle.lookup.specs.Lookup.{nodesOk, demandAnswer, demandAfter};
-ghost use Rattle.lookup.specs.Inner.{answerBy, foundBy};
+ghost use Rattle.host.specs.lookup.Lookup.{nodesOk, demandAnswer, demandAfter};
+ghost use Rattle.host.specs.lookup.Inner.{answerBy, foundBy};
+use crate::Found;
 use node::Answer;
 use node::Core;
 use windows::Looked;
 use windows::Window;
-
-// What the call returns, and the demand that it writes.
-pub struct Found {
-    pub code: u32,
-    pub demand: u32,
-}
 
 // N is 1 to 32.
 fn nodes_ok(nodes: u32) -> bool

@@ -3,8 +3,8 @@ use borrow.Author.Needs.{needs}
 use borrow.Author.Tests.{eqb-true}
 use Rattle.words.proofs.Tests.{hit, skip}
 use Rattle.node.specs.Answers.{number, isDone}
-use Rattle.lookup.proofs.demand_numbers.Statement.{statement}
-use Rattle.lookup.proofs.demand_numbers.Tie as tie
+use Rattle.host.proofs.lookup.demand_numbers.Statement.{statement}
+use Rattle.host.proofs.lookup.demand_numbers.Tie as tie
 
 demand-answer-requires : tie.Need-demand-answer-requires
 demand-answer-requires c κs = search needs

@@ -7,8 +7,8 @@ use Rattle.node.specs.Answers.{number, isDone}
 use Rattle.node.specs.declared.Answer.{Answer}
 use Rattle.node.specs.declared.Answer.the-variants.{Done, OutOfRange, NoSuchNode, BadWindows}
 use Rattle.windows.specs.declared.Looked.{Looked}
-use Rattle.lookup.specs.Lookup.{nodesOk}
-use Rattle.lookup.specs.declared.Found.{Found}
+use Rattle.host.specs.lookup.Lookup.{nodesOk}
+use Rattle.host.specs.declared.Found.{Found}
 
 -- the answer, where the test of the day and the list gave t
 abbrev pub answerBy : ℕ → ℕ → ℕ → Bool → ℕ → Answer

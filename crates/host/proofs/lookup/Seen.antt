@@ -9,8 +9,8 @@ use Rattle.node.specs.Answers.{number, isDone}
 use Rattle.node.specs.declared.Answer.the-variants.{Done, OutOfRange, NoSuchNode, BadWindows}
 use Rattle.windows.specs.Windows.{listOk, dueAt, lookedOf}
 use Rattle.windows.specs.declared.Window.{Window}
-use Rattle.lookup.specs.Lookup.{nodesOk, demandAnswer, demandAfter}
-use Rattle.lookup.specs.Inner.{answerBy, foundBy}
+use Rattle.host.specs.lookup.Lookup.{nodesOk, demandAnswer, demandAfter}
+use Rattle.host.specs.lookup.Inner.{answerBy, foundBy}
 
 pub answer-seen : (N j D : ℕ) (ws : List Window) (e d : ℕ) → foundBy N j D (lookedOf N D ws j e d) e d .code
     ≡ number (demandAnswer N j D ws e)

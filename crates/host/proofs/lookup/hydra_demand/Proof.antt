@@ -48,26 +48,26 @@ use denote.Exit.{yes}
 use Rattle.windows.specs.declared.Window.{Window}
 use Rattle.windows.specs.declared.Looked.{Looked}
 use Rattle.windows.specs.Windows.{lookedOf}
-use Rattle.lookup.specs.declared.Found.{Found}
+use Rattle.host.specs.declared.Found.{Found}
 use Rattle.windows.proofs.Window as N
 use Rattle.windows.proofs.Looked as S
 use Rattle.windows.proofs.Looked.Laws as S′
-use Rattle.lookup.proofs.Found as E
-use Rattle.lookup.proofs.Found.Laws as E′
-use Rattle.lookup.specs.Inner.{foundBy}
-use Rattle.lookup.proofs.Seen.{answer-seen, demand-seen}
+use Rattle.host.proofs.Found as E
+use Rattle.host.proofs.Found.Laws as E′
+use Rattle.host.specs.lookup.Inner.{foundBy}
+use Rattle.host.proofs.lookup.Seen.{answer-seen, demand-seen}
 use Rattle.windows.proofs.look as g₁
 use Rattle.windows.proofs.look.Symbol as g₁-def
 use Rattle.windows.proofs.look.Symbol.{name as #windows·look}
 use Rattle.windows.proofs.look.Met as g₁-thm
-use Rattle.lookup.proofs.demand_numbers as g₂
-use Rattle.lookup.proofs.demand_numbers.Symbol as g₂-def
-use Rattle.lookup.proofs.demand_numbers.Symbol.{name as #lookup·demand-numbers}
-use Rattle.lookup.proofs.demand_numbers.Met as g₂-thm
-use Rattle.lookup.proofs.hydra_demand.Key.{name as #lookup·hydra-demand}
-use Rattle.lookup.proofs.hydra_demand as f
-use Rattle.lookup.proofs.hydra_demand.Statement as stated
-use Rattle.lookup.proofs.hydra_demand.Code as code
+use Rattle.host.proofs.lookup.demand_numbers as g₂
+use Rattle.host.proofs.lookup.demand_numbers.Symbol as g₂-def
+use Rattle.host.proofs.lookup.demand_numbers.Symbol.{name as #host·demand-numbers}
+use Rattle.host.proofs.lookup.demand_numbers.Met as g₂-thm
+use Rattle.host.proofs.lookup.hydra_demand.Key.{name as #host·hydra-demand}
+use Rattle.host.proofs.lookup.hydra_demand as f
+use Rattle.host.proofs.lookup.hydra_demand.Statement as stated
+use Rattle.host.proofs.lookup.hydra_demand.Code as code
 
 abbrev stayed : Stays (f.ended .signature .params) (f.ended .kept)
 stayed = (
@@ -202,7 +202,7 @@ module _ {M : Type 1} (𝓤 : URA M) (H : Heap 𝓤) (A : Atoms 𝓤) (W : Given
       (uint-makes 𝓤 H A W w32) n-nodes _ (refl, fits-nodes) $ fjoin ! $ move ! (1 ∷ 0 ∷ []) $ join ! $ frame ! $ done !
 
   module _ (C : Calls 𝓤 H) (Λ : Loops 𝓤 H) (fm : FmC 𝓤 H (W .laws) C) (known-look : Triple 𝓤 (C #windows·look) (Look 𝓤 H A at-mem run))
-      (known-inner : Triple 𝓤 (C #lookup·demand-numbers) (Inner 𝓤 H A at-mem run)) where
+      (known-inner : Triple 𝓤 (C #host·demand-numbers) (Inner 𝓤 H A at-mem run)) where
     walk : Room N.the-row (length ys) → ent 𝓤 (onEntry 𝓤 H A f.signature (κ0, (κ1, tt)) (q0, (q1, tt)) x at)
         (WpFn 𝓤 H C Λ code.function
         (vint w32 n-nodes ∷ vint w32 n-node ∷ vint w32 n-day ∷ s-windows ∷ vint w32 n-epoch ∷ vptr b1 o1 ∷ []) Post)
@@ -283,7 +283,7 @@ module _ {M : Type 1} (𝓤 : URA M) (H : Heap 𝓤) (A : Atoms 𝓤) (W : Given
 
 module _ {M : Type 1} (𝓤 : URA M) (H : Heap 𝓤) (A : Atoms 𝓤) (W : Given 𝓤 H A) (at-mem : Memory → SProp 𝓤) (run : Routine → Fun 𝓤)
     (𝓣 : Tables 𝓤 H) (known-look : Triple 𝓤 (𝓣 .C #windows·look) (Look 𝓤 H A at-mem run))
-    (known-inner : Triple 𝓤 (𝓣 .C #lookup·demand-numbers) (Inner 𝓤 H A at-mem run)) where
+    (known-inner : Triple 𝓤 (𝓣 .C #host·demand-numbers) (Inner 𝓤 H A at-mem run)) where
   walks : Walks 𝓤 H A f.ended stayed (WpFn 𝓤 H (𝓣 .C) (𝓣 .Λ) code.function) (f.clauses 𝓤 H A at-mem run)
   walks = walked 𝓤 H A f.ended stayed (f.clauses 𝓤 H A at-mem run) (WpFn 𝓤 H (𝓣 .C) (𝓣 .Λ) code.function)
       (λ κs. (uint-vals w32, (uint-vals w32, (uint-vals w32, (slice-vals, (uint-vals w32, (ptr-vals, tt)))))))
@@ -327,8 +327,8 @@ pub hydra-demand-spec : {M : Type 1} → stated.statement M
 unfolding code.routine tablesOf
 hydra-demand-spec 𝓤 H 𝓜 𝓖 𝓡 =
     entered 𝓤 H (tripleOf 𝓤 H (𝓖 .A) f.signature (f.spec 𝓤 H (𝓖 .A) (𝓜 .mem) (𝓡 .run)))
-    (tables 𝓤 H 𝓜 𝓡 code.env .C) (tables 𝓤 H 𝓜 𝓡 code.env .Λ) #lookup·hydra-demand code.function (code.unfolded 𝓤 H 𝓜 𝓡)
+    (tables 𝓤 H 𝓜 𝓡 code.env .C) (tables 𝓤 H 𝓜 𝓡 code.env .Λ) #host·hydra-demand code.function (code.unfolded 𝓤 H 𝓜 𝓡)
     (meets 𝓤 H (𝓖 .A) (givenOf 𝓤 H 𝓜 𝓖) (𝓜 .mem) (𝓡 .run) (tablesOf 𝓤 H 𝓜 (tables 𝓤 H 𝓜 𝓡 code.env))
     (cited 𝓤 H (Look 𝓤 H (𝓖 .A) (𝓜 .mem) (𝓡 .run)) 𝓜 𝓡 code.env #windows·look g₁-def.routine code.calls-windows·look (g₁-thm.met 𝓤 H 𝓜 𝓖 𝓡))
-    (cited 𝓤 H (Inner 𝓤 H (𝓖 .A) (𝓜 .mem) (𝓡 .run)) 𝓜 𝓡 code.env #lookup·demand-numbers g₂-def.routine code.calls-lookup·demand-numbers
+    (cited 𝓤 H (Inner 𝓤 H (𝓖 .A) (𝓜 .mem) (𝓡 .run)) 𝓜 𝓡 code.env #host·demand-numbers g₂-def.routine code.calls-host·lookup·demand-numbers
     (g₂-thm.met 𝓤 H 𝓜 𝓖 𝓡)))

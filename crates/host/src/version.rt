@@ -1,7 +1,7 @@
 // The release's number. `VERSION`, the header and the programs have it too; `tests/compare/tests/headers.rs`, `tests/install` and
 // `tests/run` hold them to be the same.
 ghost use mathlib.Core.Path.{_≡_};
-ghost use Rattle.version.specs.Version.{release};
+ghost use Rattle.host.specs.version.Version.{release};
 
 const MAJOR: u32 = 2;
 
