@@ -77,7 +77,7 @@ fn pair(a: Num, b: Num) -> Two
     }
 }
 
-// Two numbers with one space between.
+// Two numbers with one space between. A second space need not be looked for: what it stands in is no number.
 pub fn two_numbers(s: &[u8]) -> Two
     ensures { λ r. ⌜ r ≡ twoOf (split 32 (now (s .entry))) ⌝ }
 {
@@ -87,11 +87,7 @@ pub fn two_numbers(s: &[u8]) -> Two
     }
     let b = e + 1;
     let t = &s[b..];
-    if text::find(t, 32) == t.len() {
-        pair(text::number(&s[..e]), text::number(t))
-    } else {
-        Two::NotTwo
-    }
+    pair(text::number(&s[..e]), text::number(t))
 }
 
 // A number in front of two.

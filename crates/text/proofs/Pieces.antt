@@ -6,11 +6,12 @@ use mathlib.Core.List.{List, [], _∷_}
 use Prim.Native.Nat.{ℕ, suc, _+_, _*_, _-_, _≤_, _<_}
 use native.Mathlib.Omega.{arith}
 use native.Mathlib.Numerals.{add-one}
-use borrow.Author.Tests.{eq-eqb, ne-eqb, lt-ltb, le-ltb}
-use lib.Dec.{eqb}
+use borrow.Author.Tests.{eq-eqb, ne-eqb, lt-ltb, le-ltb, eqb-true}
+use lib.Dec.{eqb, ltb}
 use lib.ListN.{length, getD, take, drop, drop-of-length-le, length-drop}
 use lib.Seq.{drop-cons, take-all}
 use Rattle.text.specs.Read.{before, front, split, digitsFrom, numberOf}
+use Rattle.text.specs.declared.Num.{Num}
 use Rattle.text.specs.declared.Num.the-variants.{Bad, Value}
 
 pub before-end : (c : ℕ) (s : List ℕ) (i : ℕ) → length s ≤ i → before c (drop i s) ≡ 0
@@ -118,6 +119,41 @@ module _ (v : ℕ) (s : List ℕ) (i : ℕ) (h : i < length s) where
         (v * 10 + (getD s i 0 - 48)) m,
     add-one,
   )
+
+-- a space is no digit: no digits are a number where there is one
+digits-spaced : (v : ℕ) (s : List ℕ) → before 32 s < length s → digitsFrom v s ≡ Bad
+unfolding digitsFrom before
+digits-spaced v [] h = absurd (omega arith)
+digits-spaced v (b ∷ s) h = go (eqb b 32) (eqb-true b 32) (digits-spaced (v * 10 + (b - 48)) s) h
+  where
+    rest : ℕ
+    rest = v * 10 + (b - 48)
+
+    all-bad : (p q r : Bool) (n : Num) → n ≡ Bad → cond p Bad (cond q Bad (cond r Bad n)) ≡ Bad
+    all-bad true q r n e = refl
+    all-bad false true r n e = refl
+    all-bad false false true n e = refl
+    all-bad false false false n e = e
+
+    go : (t : Bool) → (t ≡ true → b ≡ 32) → (before 32 s < length s → digitsFrom rest s ≡ Bad)
+        → cond t 0 (suc (before 32 s)) < suc (length s) → digitsFrom v (b ∷ s) ≡ Bad
+    go true f more k = rw (lt-ltb b 48 (omega (arith, f refl)))
+    go false f more k = all-bad (ltb b 48) (ltb 57 b) (ltb 4294967295 rest) (digitsFrom rest s) (more (omega arith))
+
+-- and no number
+pub number-spaced : (s : List ℕ) → before 32 s < length s → numberOf s ≡ Bad
+unfolding numberOf before
+number-spaced [] h = absurd (omega arith)
+number-spaced (b ∷ []) h = go (eqb b 32) (eqb-true b 32) h
+  where
+    go : (t : Bool) → (t ≡ true → b ≡ 32) → cond t 0 1 < 1 → cond (eqb b 48) (Value 0) (digitsFrom 0 (b ∷ [])) ≡ Bad
+    go true f k = rw (ne-eqb b 48 (λ e. omega (arith, e, f refl))) (digits-spaced 0 (b ∷ []) h)
+    go false f k = absurd (omega arith)
+number-spaced (b ∷ a ∷ s) h = go (eqb b 48)
+  where
+    go : (t : Bool) → cond t Bad (digitsFrom 0 (b ∷ a ∷ s)) ≡ Bad
+    go true = refl
+    go false = digits-spaced 0 (b ∷ a ∷ s) h
 
 -- the same, of a number that find found
 pub last-piece : (c : ℕ) (s : List ℕ) (e : ℕ) → e ≡ before c s → e ≡ length s → split c s ≡ s ∷ []

@@ -1,10 +1,14 @@
 -- The fields of a line, as find found the first space.
 -- Assumes nothing.
-use mathlib.Core.Path.{_≡_, refl, ap, _∙_}
+use mathlib.Core.Path.{_≡_, refl, sym, ap, _∙_}
+use mathlib.Core.Bool.{Bool, true, false}
 use mathlib.Core.List.{List, [], _∷_}
 use Prim.Native.Nat.{ℕ, _+_, _≤_}
+use native.Mathlib.Omega.{arith}
+use borrow.Author.Tests.{eqb-true, eqb-false}
+use lib.Dec.{eqb}
 use lib.ListN.{length, take}
-use Rattle.text.proofs.Pieces.{last-piece, first-piece, behind, Some, split-some}
+use Rattle.text.proofs.Pieces.{last-piece, first-piece, behind, Some, split-some, before-le, number-spaced}
 use Rattle.text.specs.Read.{before, split, numberOf}
 use Rattle.text.specs.declared.Num.{Num}
 use Rattle.text.specs.declared.Num.the-variants.{Bad, Value}
@@ -23,6 +27,10 @@ three-not a b c s = go (split c s) (split-some c s)
     go [] h = absurd h
     go (p ∷ r) h = refl
 
+both-bad : (a : Num) → both a Bad ≡ NotTwo
+both-bad Bad = refl
+both-bad (Value x) = refl
+
 -- without the others there are no five, no four, and no three
 pub five-none : (a : Num) → with5 a NotFour ≡ NotFive
 five-none Bad = refl
@@ -38,15 +46,19 @@ with-none (Value x) = refl
 
 -- find found the first space at e
 module _ (s : List ℕ) (e : ℕ) (h : e ≡ before 32 s) (k : e ≤ length s) (n : e ≡ length s → ⊥) where
-  pub two-is : (f : ℕ) → f ≡ before 32 (behind (e + 1) s) → f ≡ length (behind (e + 1) s)
+  -- as many bytes before the next space as there are, or fewer
+  two-by : (f : ℕ) → f ≡ before 32 (behind (e + 1) s) → f ≤ length (behind (e + 1) s) → (t : Bool) → eqb f (length (behind (e + 1) s)) ≡ t
       → twoOf (split 32 s) ≡ both (numberOf (take e s)) (numberOf (behind (e + 1) s))
   unfolding twoOf
-  two-is f g l = rw (first-piece 32 s e h k n, last-piece 32 (behind (e + 1) s) f g l)
+  two-by f g l true q = rw (first-piece 32 s e h k n, last-piece 32 (behind (e + 1) s) f g (eqb-true f _ q))
+  two-by f g l false q =
+      let m : f ≡ length (behind (e + 1) s) → ⊥ = eqb-false f _ q in
+      ap twoOf (first-piece 32 s e h k n ∙ ap (λ (x : List (List ℕ)). take e s ∷ x) (first-piece 32 (behind (e + 1) s) f g l m))
+      ∙ three-not (take e s) (take f (behind (e + 1) s)) 32 (behind (f + 1) (behind (e + 1) s))
+      ∙ sym (ap (both (numberOf (take e s))) (number-spaced (behind (e + 1) s) (omega (arith, g, l, m))) ∙ both-bad (numberOf (take e s)))
 
-  pub two-not : (f : ℕ) → f ≡ before 32 (behind (e + 1) s) → f ≤ length (behind (e + 1) s) → (f ≡ length (behind (e + 1) s) → ⊥)
-      → twoOf (split 32 s) ≡ NotTwo
-  two-not f g l m = ap twoOf (first-piece 32 s e h k n ∙ ap (λ (x : List (List ℕ)). take e s ∷ x)
-      (first-piece 32 (behind (e + 1) s) f g l m)) ∙ three-not (take e s) (take f (behind (e + 1) s)) 32 (behind (f + 1) (behind (e + 1) s))
+  pub two-is : twoOf (split 32 s) ≡ both (numberOf (take e s)) (numberOf (behind (e + 1) s))
+  two-is = two-by _ refl (before-le 32 (behind (e + 1) s)) _ refl
 
   pub three-is : threeOf (split 32 s) ≡ with3 (numberOf (take e s)) (twoOf (split 32 (behind (e + 1) s)))
   unfolding threeOf
