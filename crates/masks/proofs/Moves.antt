@@ -31,6 +31,19 @@ use Rattle.masks.proofs.Rows.{masks-then, low-read}
 use Rattle.masks.proofs.Rows.{high-read, count-read, zero-at, zeros-make, no-masks, low-past, high-past}
 use Rattle.masks.proofs.Fits.{iff}
 
+-- bytes that are all 0: the first m and the last m of them, where these are all
+pub both-ends : (l : List ℕ) (at n m : ℕ) → m ≤ n → n ≤ m + m
+    → (bounded (span l at m) 0 0 && bounded (span l (at + (n - m)) m) 0 0) ≡ bounded (span l at n) 0 0
+both-ends l at n m h g =
+    iff _ _
+    (λ e. zeros-make l at n (λ p a c.
+    by-test (λ (_ : ℕ). getD l p 0 ≡ 0) (ltb p (at + m)) 0 0
+    (λ u. zero-at l at m (and-left (bounded (span l at m) 0 0) _ e) p a (ltb-true p (at + m) u))
+    (λ u. zero-at l (at + (n - m)) m (and-right (bounded (span l at m) 0 0) _ e) p (omega (arith, ltb-false p (at + m) u, g))
+    (omega (arith, c, h)))))
+    (λ e. both (zeros-make l at m (λ p a c. zero-at l at n e p a (omega (arith, c, h))))
+    (zeros-make l (at + (n - m)) m (λ p a c. zero-at l at n e p (omega (arith, a)) (omega (arith, c, h)))))
+
 -- Words that are 0, and their bytes
 
 module _ (l : List ℕ) (b : Bytes l) where
@@ -116,6 +129,13 @@ module _ (l : List ℕ) (b : Bytes l) where
         iff (lows && (highs && helds)) (restBlank (masksIn l at) top)
         (λ a. there (and-left lows _ a) (and-left highs helds (and-right lows _ a)) (and-right highs helds (and-right lows _ a)))
         (λ r. both (low-back r) (both (high-back r) (count-back r)))
+
+    -- they are not where their first words are not, or their second ones
+    pub low-fails : lows ≡ false → false ≡ restBlank (masksIn l at) top
+    low-fails e = sym (ap (λ (t : Bool). t && (highs && helds)) e) ∙ rest-is
+
+    pub high-fails : highs ≡ false → false ≡ restBlank (masksIn l at) top
+    high-fails e = sym (ap (λ (t : Bool). lows && (t && helds)) e ∙ and-false lows) ∙ rest-is
 
 -- Zeros
 

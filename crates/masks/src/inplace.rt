@@ -59,15 +59,30 @@ fn rows_fit(s: &[u8], from: usize, top: usize, k: u32) -> bool
     ends_by(taken_low, taken_high, k)
 }
 
+// Whether n bytes at a place, at most 2 m, are all 0: by the first m and the last m of them where there are so many. For an m that the
+// caller knows these are a few vectors.
+fn is_run_blank(s: &[u8], from: usize, n: usize, m: usize) -> bool
+    requires { ⌜ (from + n ≤ length (now s)) × (n ≤ m + m) ⌝ }
+    ensures { λ r. ⌜ r ≡ bounded (span (now (s .entry)) from n) 0 0 ⌝ }
+{
+    if n < m {
+        return is_blank(s, from, n);
+    }
+    is_blank(s, from, m) & is_blank(s, from + (n - m), m)
+}
+
 // Whether the other nodes have neither slots nor counts.
 fn rest_blank(s: &[u8], from: usize, top: usize) -> bool
     requires { ⌜ (from + masksSize ≤ length (now s)) × (top ≤ 32) ⌝ }
     ensures { λ r. ⌜ r ≡ restBlank (masksIn (now (s .entry)) from) top ⌝ }
 {
-    let low = is_blank(s, from + 8 * top, 256 - 8 * top);
-    let high = is_blank(s, from + 256 + 2 * top, 64 - 2 * top);
-    let counts = is_blank(s, from + 320 + top, 32 - top);
-    low & (high & counts)
+    if !is_run_blank(s, from + 8 * top, 256 - 8 * top, 128) {
+        return false;
+    }
+    if !is_run_blank(s, from + 256 + 2 * top, 64 - 2 * top, 32) {
+        return false;
+    }
+    is_run_blank(s, from + 320 + top, 32 - top, 16)
 }
 
 // How many rows of the masks at a place are to be looked at: the first n, where the others have neither slots nor counts; else all.
