@@ -10,8 +10,8 @@ use native.Mathlib.Nat.{not-suc-le-zero, le-of-suc-le-suc}
 use native.Mathlib.Omega.{arith}
 use borrow.Author.Tests.{ltb-true, ltb-false, leb-true, eqb-true, eqb-false, lt-ltb, eq-eqb, ne-eqb}
 use lib.Dec.{eqb, ltb, leb, eqb·zero-suc}
-use lib.ListN.{length, getD, set, replicate, length-set, List·getD-eq-default}
-use lib.Seq.{ext-getD, getD-set-same, getD-set-other}
+use lib.ListN.{length, getD, set, drop, replicate, length-set, List·getD-eq-default}
+use lib.Seq.{ext-getD, drop-cons, getD-drop, getD-set-same, getD-set-other}
 use Rattle.words.specs.Bits.{hasBit, digit, howMany}
 use Rattle.words.proofs.Tests.{clash, by-test, same-or-not, is-false, hit, skip, and-left, and-right, and-rest, or-front, or-rest}
 use Rattle.words.proofs.Tests.{or-neither}
@@ -92,6 +92,18 @@ total-full (x ∷ l) [] h f zero = omega (arith, h 0)
 total-full (x ∷ l) [] h f (suc i) = omega (arith, h (suc i))
 total-full (x ∷ l) (y ∷ t) h f zero = omega (arith, h 0, total-le l t (λ m. h (suc m)))
 total-full (x ∷ l) (y ∷ t) h f (suc i) = total-full l t (λ m. h (suc m)) (omega (arith, h 0)) i
+
+-- the sum from an index on: one more, and none behind the last that is above 0
+pub total-more : (l : List ℕ) (i : ℕ) → i < length l → total (drop i l) ≡ getD l i 0 + total (drop (i + 1) l)
+unfolding total
+total-more l i h = let e : i + 1 ≡ suc i = omega arith in ap total (drop-cons l i 0 h)
+    ∙ ap (λ (x : ℕ). getD l i 0 + total (drop x l)) (sym e)
+
+pub total-end : (l : List ℕ) (i : ℕ) → ((j : ℕ) → i ≤ j → getD l j 0 ≡ 0) → total (drop i l) ≡ 0
+total-end l i z =
+    let h : total (drop i l) ≤ total (replicate 0 0) = total-le (drop i l) (replicate 0 0)
+    (λ j. omega (arith, getD-drop i l j 0, z (i + j) (omega arith))) in
+    omega (arith, h, total-zeros 0)
 
 -- a list whose owners are the other's, or none, has no more slots of any
 count-le : (j : ℕ) (l t : List ℕ) → ((k : ℕ) → (getD l k 0 ≡ 0) ⊎ (getD l k 0 ≡ getD t k 0)) → count (suc j) l ≤ count (suc j) t
@@ -672,6 +684,12 @@ module _ (N K m : ℕ) (R : List ℕ) where
       let s : total (targets N K m R) + dealt (asks N m R) K .left ≡ min K 80 = dealt-all (asks N m R) K .0 .sum in
       let l : total (targets N K m R) ≤ total (asks N m R) = total-le (targets N K m R) (asks N m R) target-ask in
       ⊎-elim (λ z. omega arith) (λ e. omega (arith, ap total e)) targets-done
+
+  -- where there are slots for all that is asked for, that is dealt
+  pub all-asked : total (asks N m R) ≤ min K 80 → targets N K m R ≡ asks N m R
+  all-asked h =
+      ext-getD 0 (targets N K m R) (asks N m R) (length-targets ∙ sym (length-asks N m R))
+      (λ i l. total-full (targets N K m R) (asks N m R) target-ask (omega (arith, targets-total, h)) i)
 
 -- The next schedule.
 module _ (s : Schedule) (m : ℕ) (R : List ℕ) (N K : ℕ) where

@@ -5,7 +5,7 @@ ghost use Prim.Native.Nat.{ℕ, min, _≤_, _<_, _+_, _-_};
 ghost use lib.ListN.{getD};
 ghost use Rattle.lists.specs.All.{iter};
 ghost use Rattle.allotment.specs.Allotment.{topSlots, ask, asks, dealRound, dealt, targets};
-ghost use Rattle.allotment.specs.Allotment.{better, chosen, holding};
+ghost use Rattle.allotment.specs.Allotment.{better, chosen, holding, total};
 
 mod inplace;
 
@@ -37,9 +37,9 @@ pub struct Share {
 }
 
 // What the node at index i asks for.
-fn ask(members: u32, requests: [u8; 32], n: u32, i: usize) -> u8
+fn ask(members: u32, requests: &[u8; 32], n: u32, i: usize) -> u8
     requires { ⌜ i < 32 ⌝ }
-    ensures { λ r. ⌜ r ≡ ask n members requests i ⌝ }
+    ensures { λ r. ⌜ r ≡ ask n members (now (requests .entry)) i ⌝ }
 {
     let x = requests[i];
     let is_node = (i as u32) < n;
@@ -55,7 +55,7 @@ fn asks(members: u32, requests: [u8; 32], n: u32) -> [u8; 32]
     let top = nodes(n);
     let mut l = [0u8; 32];
     for i in 0..top {
-        l[i] = ask(members, requests, n, i);
+        l[i] = ask(members, &requests, n, i);
     }
     l
 }
@@ -134,11 +134,28 @@ fn deal_all(wanted: [u8; 32], k: u32, n: usize) -> Deal
     s
 }
 
-// The targets of the members among n nodes and k slots.
+// What all ask for together. Behind the first n no node wants a slot.
+fn total(wanted: [u8; 32], n: usize) -> u32
+    requires { ⌜ (n ≤ 32) × ((i : ℕ) → n ≤ i → getD wanted i 0 ≡ 0) ⌝ }
+    ensures { λ r. ⌜ r ≡ total wanted ⌝ }
+{
+    let mut sum: u32 = 0;
+    for i in 0..n {
+        sum = sum + (wanted[i] as u32);
+    }
+    sum
+}
+
+// The targets of the members among n nodes and k slots: what each asks for, where there are slots for all of it.
 pub fn targets(members: u32, requests: [u8; 32], n: u32, k: u32) -> [u8; 32]
     ensures { λ r. ⌜ r ≡ targets n k members requests ⌝ }
 {
-    let d = deal_all(asks(members, requests, n), k, nodes(n));
+    let wanted = asks(members, requests, n);
+    let top = nodes(n);
+    if total(wanted, top) <= slots(k) {
+        return wanted;
+    }
+    let d = deal_all(wanted, k, top);
     d.targets
 }
 

@@ -8,8 +8,8 @@ use Rattle.allotment.specs.Allotment.{topRequest}
 use Rattle.allotment.proofs.ask.Statement.{statement}
 use Rattle.allotment.proofs.ask.Tie as tie
 
-array-read-x : tie.Need-array-read-x
-array-read-x c = search needs
+element-copy-out-x : tie.Need-element-copy-out-x
+element-copy-out-x c = search needs
 
 cast-is-node : tie.Need-cast-is-node
 cast-is-node c = search needs
@@ -22,17 +22,17 @@ contains-requires c κs = search needs
 
 returns : tie.Need-returns
 returns c =
-    let a = c .before .before .args in
-    sym (hit _ _ _ (ap (λ (t : Bool). ltb (a .i) (a .n) && t && leb (getD (a .t2) (a .i) 0) topRequest)
+    let a = c .before .before .before .args in
+    sym (hit _ _ _ (ap (λ (t : Bool). ltb (a .i) (a .n) && t && leb (getD (a .requests .now) (a .i) 0) topRequest)
     (sym (c .before .contains .ensures)) ∙ c .if1 .taken))
 
 returns-2 : tie.Need-returns-2
 returns-2 c =
-    let a = c .before .before .args in
-    sym (skip _ _ _ _ (ap (λ (t : Bool). ltb (a .i) (a .n) && t && leb (getD (a .t2) (a .i) 0) topRequest)
+    let a = c .before .before .before .args in
+    sym (skip _ _ _ _ (ap (λ (t : Bool). ltb (a .i) (a .n) && t && leb (getD (a .requests .now) (a .i) 0) topRequest)
     (sym (c .before .contains .ensures)) ∙ c .if1 .left) refl)
 
 pub ask-spec : {M : Type 1} → statement M
 ask-spec =
     tie.close
-    (tie.spec array-read-x cast-is-node cast-contains contains-requires returns returns-2)
+    (tie.spec element-copy-out-x cast-is-node cast-contains contains-requires returns returns-2)

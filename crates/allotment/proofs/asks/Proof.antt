@@ -17,10 +17,10 @@ use Rattle.allotment.proofs.asks.Statement.{statement}
 use Rattle.allotment.proofs.asks.Tie as tie
 
 abbrev Inv-loop : tie.InvT-loop
-Inv-loop members requests n top l₀ i₀ l i = (i ≤ top) × (l ≡ tab i (ask n members requests) ++ drop i (replicate 32 0))
+Inv-loop members n requests top l₀ i₀ l i = (i ≤ top) × (l ≡ tab i (ask n members requests) ++ drop i (replicate 32 0))
 
 abbrev μ-loop : tie.MeasureT-loop
-μ-loop members requests n top l₀ i₀ l i = top - i
+μ-loop members n requests top l₀ i₀ l i = top - i
 
 nodes-requires : tie.Need-nodes-requires Inv-loop μ-loop
 nodes-requires c κs = search needs
@@ -41,7 +41,7 @@ loop-less : tie.Need-loop-less Inv-loop μ-loop
 loop-less c = omega arith
 
 loop-again : tie.Need-loop-again Inv-loop μ-loop
-loop-again c = (omega arith, fill-more _ _ _ _ _ (omega arith) (c .before .before .loop .inv .1) (c .ask .ensures))
+loop-again c = (omega arith, fill-more _ _ _ _ _ (omega arith) (c .before .before .before .loop .inv .1) (c .ask .ensures))
 
 returns : tie.Need-returns Inv-loop μ-loop
 unfolding asks
@@ -51,9 +51,9 @@ returns c =
     let t = c .before .before .nodes in
     let n = d .args .n in
     let e : l .i ≡ t .result = omega (arith, l .inv .0) in
-    fill-rest _ (ask n (d .args .members) (d .args .requests)) (l .l) (omega (arith, t .ensures, l .inv .0)) (l .inv .1)
+    fill-rest _ (ask n (d .args .members) (d .args .t2)) (l .l) (omega (arith, t .ensures, l .inv .0)) (l .inv .1)
     (λ i k g. skip _ _ _ _
-    (ap (λ (b : Bool). b && hasBit (d .args .members) i && leb (getD (d .args .requests) i 0) topRequest)
+    (ap (λ (b : Bool). b && hasBit (d .args .members) i && leb (getD (d .args .t2) i 0) topRequest)
     (le-ltb i n (omega (arith, k, g, e, t .ensures)))) refl)
 
 pub asks-spec : {M : Type 1} → statement M
