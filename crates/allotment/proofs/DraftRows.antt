@@ -172,7 +172,7 @@ module _ (target old : List ℕ) (K a b : ℕ) (frees : (x : ℕ) → x < 80 →
 
   -- a turn: the node of number j, which stands at index i, gets the slot
   module _ (slot : ℕ) (low high held : List ℕ) (s : So target old K (min slot 80) low high held) (j : ℕ)
-      (c : j ≡ chosen target (holding held)) where
+      (c : slot < 80 → j ≡ chosen target (holding held)) where
     pub so-turn : (i : ℕ) → (j ≤ 32 → i ≡ j - 1) → j ≢ 0 → slot < 80 → hasSlot a b slot ≡ true → i < 32 → (m : ℕ) → m ≡ getD held i 0 + 1
         → (p q r : ℕ) → p ≡ lowBit slot → q ≡ highBit slot
         → FirstFrom (hasSlot a b) 80 (slot + 1) r
@@ -180,7 +180,7 @@ module _ (target old : List ℕ) (K a b : ℕ) (frees : (x : ℕ) → x < 80 →
     so-turn i at h l t k m e p q r ep eq f =
         let z : min slot 80 ≡ slot = omega (arith, l) in
         so-on (slot + 1) r _ _ _ (omega (arith, l)) f
-        (so-given target old K slot low high held (subst (λ (x : ℕ). So target old K x low high held) z s) j c i at h l
+        (so-given target old K slot low high held (subst (λ (x : ℕ). So target old K x low high held) z s) j (c l) i at h l
         (frees slot l ∙ t) k m e _ _ _
         (ap (λ (x : ℕ). set low i (Bits.bitOr (getD low i 0) x)) ep) (ap (λ (x : ℕ). set high i (Bits.bitOr (getD high i 0) x)) eq) refl)
 
@@ -189,7 +189,7 @@ module _ (target old : List ℕ) (K a b : ℕ) (frees : (x : ℕ) → x < 80 →
     so-done e = go (ltb slot 80) refl
       where
         go : (t : Bool) → ltb slot 80 ≡ t → fromWords low high held ≡ masksOf (allotted target old K)
-        go true f = so-rest target old K (min slot 80) low high held s j c (omega arith)
+        go true f = so-rest target old K (min slot 80) low high held s j (c (ltb-true slot 80 f)) (omega arith)
             (eqb-true j 0 (not-false _ (and-rest (ltb slot 80) (not (eqb j 0)) e f)))
         go false f =
             let l = ltb-false slot 80 f in

@@ -157,7 +157,7 @@ fn allot(s: &mut [u8], at: usize, to: usize, target: [u8; 32], n: usize, k: u32)
     let free_low = own_low(18446744073709551615, taken_low, k);
     let free_high = own_high(65535, taken_high, k);
     let mut slot = next_slot(free_low, free_high, 0);
-    let mut j = turn(&target, &held, n, 0, 0);
+    let mut j = turn(slot, &target, &held, n, 0, 0);
     while (slot < 80) & (j != 0) {
         let i = node_index(j);
         let has = held[i];
@@ -166,7 +166,7 @@ fn allot(s: &mut [u8], at: usize, to: usize, target: [u8; 32], n: usize, k: u32)
         high[i] = high[i] | high_bit(slot);
         held[i] = one_more(has, top);
         slot = next_slot(free_low, free_high, slot + 1);
-        j = turn(&target, &held, n, has, i + 1);
+        j = turn(slot, &target, &held, n, has, i + 1);
     }
     masks::put_words(s, to, rows, &low, &high, held);
 }

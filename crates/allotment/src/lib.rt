@@ -2,6 +2,7 @@
 ghost use mathlib.Core.Path.{_≡_};
 ghost use mathlib.Core.Bool.{true, cond};
 ghost use Prim.Native.Nat.{ℕ, min, _≤_, _<_, _+_, _-_};
+ghost use lib.Dec.{ltb};
 ghost use lib.ListN.{getD};
 ghost use Rattle.lists.specs.All.{iter};
 ghost use Rattle.allotment.specs.Allotment.{topSlots, ask, asks, dealRound, dealt, targets};
@@ -198,14 +199,17 @@ fn choose(target: &[u8; 32], held: &[u8; 32], n: usize) -> u8
     best
 }
 
-// As `choose`, where of the nodes below their targets none has fewer than `level` slots, and those before `from` have more:
-// the next one with just as many, or else the walk over all.
-fn turn(target: &[u8; 32], held: &[u8; 32], n: usize, level: u8, from: usize) -> u8
+// Who gets a slot; nobody behind the last. As `choose`, where of the nodes below their targets none has fewer than `level` slots, and those
+// before `from` have more: the next one with just as many, or else the walk over all.
+fn turn(slot: usize, target: &[u8; 32], held: &[u8; 32], n: usize, level: u8, from: usize) -> u8
     requires { ⌜ (n ≤ 32) × ((i : ℕ) → n ≤ i → getD (now target) i 0 ≡ 0) ×
         ((i : ℕ) → getD (now held) i 0 < getD (now target) i 0 → (level ≤ getD (now held) i 0)
         × (i < from → level < getD (now held) i 0)) ⌝ }
-    ensures { λ r. ⌜ r ≡ chosen (now (target .entry)) (holding (now (held .entry))) ⌝ }
+    ensures { λ r. ⌜ r ≡ cond (ltb slot topSlots) (chosen (now (target .entry)) (holding (now (held .entry)))) 0 ⌝ }
 {
+    if 80 <= slot {
+        return 0;
+    }
     for i in from..n {
         let has = held[i];
         if (has == level) & (has < target[i]) {

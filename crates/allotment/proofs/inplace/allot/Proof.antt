@@ -7,7 +7,7 @@ use mathlib.Core.Logic.{_≢_}
 use Prim.Native.Nat.{ℕ, min, _≤_, _<_, _-_, _+_}
 use native.Mathlib.Omega.{arith}
 use borrow.Author.Needs.{needs}
-use borrow.Author.Tests.{le-leb, ltb-true, ltb-false, eqb-false, not-true}
+use borrow.Author.Tests.{le-leb, lt-ltb, ltb-true, ltb-false, eqb-false, not-true}
 use lib.Dec.{eqb, ltb, leb}
 use lib.ListN.{length, getD, length-set, drop, replicate}
 use lib.Seq.{getD-set-other}
@@ -47,7 +47,7 @@ abbrev μ-loop : tie.MeasureT-loop
 
 abbrev Inv-loop2 : tie.InvT-loop2
 Inv-loop2 s at to n k target rows low₀ high₀ held₀ taken-low taken-high free-low free-high slot₀ j₀ low high held slot j =
-    (length held ≡ 32) × (j ≡ chosen target (holding held))
+    (length held ≡ 32) × (slot < 80 → j ≡ chosen target (holding held))
     × ((x : ℕ) → x < 80 → (ltb x k && eqb (getD (ownersIn (masksIn s at)) x 0) 0) ≡ hasSlot free-low free-high x)
     × So target (ownersIn (masksIn s at)) k (min slot 80) low high held × (slot < 80 → hasSlot free-low free-high slot ≡ true)
     × ((x : ℕ) → rows ≤ x → getD low x 0 ≡ 0) × ((x : ℕ) → rows ≤ x → getD high x 0 ≡ 0)
@@ -198,7 +198,7 @@ loop2-holds c =
     λ z g. frees m (a .k) z g ∙ sym (ap₂ (λ (u v : ℕ). hasSlot u v z) x y) in
     let e : fromWords (l .low) (l .high) (l .held) ≡ _ = (λ i. fromWords (p i) (q i) (r i)) ∙ keep-is m t (a .k) w in (
       ap length r ∙ length-tab 32 _,
-      c .turn .ensures,
+      λ h. c .turn .ensures ∙ hit _ _ _ (lt-ltb _ _ h),
       f,
       so-on t (ownersIn m) (a .k) _ _ f 0 _ _ _ _ (omega arith) (c3 .next-slot .ensures) (so-kept t (ownersIn m) (a .k) _ _ _ w e),
       c3 .next-slot .ensures .passes,
@@ -250,8 +250,9 @@ one-more-requires c κs =
     let c4 = c .before .before .before .before in
     let l = c4 .loop2 in
     let a = begin c4 .args in
-    fill-may (a .t4) (ownersIn (masksIn (a .s .now) (a .at))) (a .k) (holding (l .held)) _ (l .inv .1) _
-    (c .before .before .node-index .ensures .1) (some (l .slot) (l .j) (c .before .before .before .loop2-test .taken))
+    let t = c .before .before .before .loop2-test .taken in
+    fill-may (a .t4) (ownersIn (masksIn (a .s .now) (a .at))) (a .k) (holding (l .held)) _ (l .inv .1 (left (l .slot) (l .j) t)) _
+    (c .before .before .node-index .ensures .1) (some (l .slot) (l .j) t)
 
 array-write-held-2 : tie.Need-array-write-held-2 Inv-loop μ-loop Inv-loop2 μ-loop2
 array-write-held-2 c = omega arith
@@ -277,12 +278,12 @@ turn-requires-2 c κs =
     let l = c8 .loop2 in
     let b = begin c8 in
     let a = b .args in
-    let p = b .pre in (
+    let p = b .pre in
+    let t = c .before .before .before .before .before .before .before .loop2-test .taken in (
       p .2,
       p .3,
-      fill-at (a .t4) (ownersIn (masksIn (a .s .now) (a .at))) (a .k) (holding (l .held)) _ (l .inv .1) _
-          (c .before .before .before .before .before .before .node-index .ensures .1)
-          (some (l .slot) (l .j) (c .before .before .before .before .before .before .before .loop2-test .taken)) _ (long-target b)
+      fill-at (a .t4) (ownersIn (masksIn (a .s .now) (a .at))) (a .k) (holding (l .held)) _ (l .inv .1 (left (l .slot) (l .j) t)) _
+          (c .before .before .before .before .before .before .node-index .ensures .1) (some (l .slot) (l .j) t) _ (long-target b)
           (l .inv .0) (c .before .before .before .one-more .ensures),
     )
 
@@ -304,10 +305,11 @@ loop2-again c =
     let x = c4 .before .before .before .node-index in
     let u = c8 .before .before .before .before .before .before .before .before .before .before .rows-used in
     let i<n : x .result < a .n = below (a .t4) (a .n) (b .pre .3) (l .held) (x .result)
-    (fill-may (a .t4) (ownersIn m) (a .k) (holding (l .held)) _ (l .inv .1) _ (x .ensures .1) (some (l .slot) (l .j) t)) in
+    (fill-may (a .t4) (ownersIn m) (a .k) (holding (l .held)) _ (l .inv .1 (left (l .slot) (l .j) t)) _ (x .ensures .1)
+    (some (l .slot) (l .j) t)) in
     let g : x .result < u .result = omega (arith, i<n, rest (a .s .now) (a .at) (a .n) (u .result) (u .ensures) .least (b .pre .2)) in (
       length-set (l .held) _ _ ∙ l .inv .0,
-      c .turn2 .ensures,
+      λ h. c .turn2 .ensures ∙ hit _ _ _ (lt-ltb _ _ h),
       l .inv .2,
       so-turn (a .t4) (ownersIn m) (a .k) _ _ (l .inv .2) (l .slot) (l .low) (l .high) (l .held) (l .inv .3) (l .j) (l .inv .1) _
           (c4 .before .before .before .node-index .ensures .1)
