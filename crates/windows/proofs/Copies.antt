@@ -8,13 +8,13 @@ use native.Mathlib.Numerals.{add-one}
 use mathlib.Core.Bool.{Bool, true, false, _&&_}
 use borrow.Author.Tests.{ltb-true, ltb-false, lt-ltb, eq-eqb}
 use lib.Dec.{eqb, ltb}
-use lib.ListN.{length, getD, take, set, length-take, length-set, length-map, length-replicate}
+use lib.ListN.{length, getD, take, set, replicate, length-take, length-set, length-map, length-replicate}
 use lib.Seq.{getD-take, getD-set-same, getD-set-other, take-all, take-at, append-snoc}
 use Rattle.words.proofs.Tests.{hit, skip}
 use Rattle.lists.specs.All.{allBelow, tab}
 use Rattle.lists.proofs.Laws.{length-tab, getD-tab}
 use Rattle.windows.specs.Windows.{noWindow, windowAt}
-use Rattle.windows.specs.Copies.{places, windowIn, windowCount, windowsIn, noWindows, withWindow, copyFrom, copyOf, windowWords}
+use Rattle.windows.specs.Copies.{places, windowIn, windowCount, windowsIn, wordsWith, wordsFrom, wordsOf, copyOf, windowWords}
 use Rattle.windows.specs.Copies.{listOf}
 use Rattle.windows.specs.declared.Window.{Window}
 use Rattle.windows.specs.declared.Windows as D
@@ -172,39 +172,52 @@ length-listed a l m = count-in (windowWords a)
     ∙ count-whole (windowWords a) (a .count) (omega (arith, l, m, length-take (4 * a .count) (a .list)))
     m
 
--- a copy of which i windows are read, with those that follow: the first 65 of all
-copy-from : (ws : List Window) (a : D.Windows) (i : ℕ) → length (a .list) ≡ 260 → a .count ≡ min i places
-    → listOf (copyFrom a i ws) ≡ take places (listOf a ++ ws)
-copy-from [] a i l h = sym (ap (take places) (append-nil (listOf a))
-    ∙ take-all places (listOf a) (omega (arith, length-listed a l (omega (arith, h)), h)))
-copy-from (w ∷ ws) a i l h = go (ltb i places) refl (copy-from ws)
+-- words of which i windows are read, with those that follow: the first 65 of all
+copy-from : (ws : List Window) (l : List ℕ) (i : ℕ) → length l ≡ 260
+    → listOf (wordsOf (i + length ws) (wordsFrom l i ws)) ≡ take places (listOf (wordsOf i l) ++ ws)
+copy-from [] l i h =
+    let a = wordsOf i l in
+    let n : i + 0 ≡ i = omega arith in
+    ap (λ (m : ℕ). listOf (wordsOf m l)) n ∙ sym (ap (take places) (append-nil (listOf a))
+    ∙ take-all places (listOf a) (omega (arith, length-listed a h (omega arith))))
+copy-from (w ∷ ws) l i h =
+    let n : i + suc (length ws) ≡ (i + 1) + length ws = omega arith in
+    ap (λ (m : ℕ). listOf (wordsOf m (wordsFrom (wordsWith l i w) (i + 1) ws))) n ∙ go (ltb i places) refl (copy-from ws)
   where
-    go : (t : Bool) → ltb i places ≡ t → ((b : D.Windows) (m : ℕ) → length (b .list) ≡ 260 → b .count ≡ min m places
-        → listOf (copyFrom b m ws) ≡ take places (listOf b ++ ws))
-        → listOf (copyFrom (withWindow a i w) (i + 1) ws) ≡ take places (listOf a ++ (w ∷ ws))
+    go : (t : Bool) → ltb i places ≡ t
+        → ((k : List ℕ) (m : ℕ) → length k ≡ 260
+        → listOf (wordsOf (m + length ws) (wordsFrom k m ws)) ≡ take places (listOf (wordsOf m k) ++ ws))
+        → listOf (wordsOf ((i + 1) + length ws) (wordsFrom (wordsWith l i w) (i + 1) ws)) ≡ take places (listOf (wordsOf i l) ++ (w ∷ ws))
     go true e more =
         let k : i < places = ltb-true _ _ e in
-        let b : D.Windows = record { count = i + 1; list = put (a .list) i w } in
-        let c : a .count ≡ i = omega (arith, h, k) in
-        let s : withWindow a i w ≡ b = hit _ b a e in
-        let n : length (b .list) ≡ 260 = length-put (a .list) i w ∙ l in
-        let r : listOf b ≡ listOf a ++ (w ∷ []) =
-        grown (a .list) i w k (omega (arith, l)) ∙ ap (λ (m : ℕ). windowsIn (take (4 * m) (a .list)) ++ (w ∷ [])) (sym c) in
-        ap (λ (x : D.Windows). listOf (copyFrom x (i + 1) ws)) s
-        ∙ more b (i + 1) n (omega (arith, k))
+        let m₁ : min (i + 1) places ≡ i + 1 = omega (arith, k) in
+        let m₀ : i ≡ min i places = omega (arith, k) in
+        let r : listOf (wordsOf (i + 1) (put l i w)) ≡ listOf (wordsOf i l) ++ (w ∷ []) =
+        ap (λ (m : ℕ). windowsIn (take (4 * m) (put l i w))) m₁
+        ∙ grown l i w k (omega (arith, h))
+        ∙ ap (λ (m : ℕ). windowsIn (take (4 * m) l) ++ (w ∷ [])) m₀ in
+        ap (λ (x : List ℕ). listOf (wordsOf ((i + 1) + length ws) (wordsFrom x (i + 1) ws))) (hit _ (put l i w) l e)
+        ∙ more (put l i w) (i + 1) (length-put l i w ∙ h)
         ∙ ap (λ (x : List Window). take places (x ++ ws)) r
-        ∙ ap (take places) (append-snoc (listOf a) w ws)
+        ∙ ap (take places) (append-snoc (listOf (wordsOf i l)) w ws)
     go false e more =
         let k : places ≤ i = ltb-false _ _ e in
-        let n : length (listOf a) ≡ places = omega (arith, length-listed a l (omega (arith, h)), h, k) in
-        ap (λ (x : D.Windows). listOf (copyFrom x (i + 1) ws)) (skip _ _ a a e refl)
-        ∙ more a (i + 1) l (omega (arith, h, k))
+        let a = wordsOf i l in
+        let m : min (i + 1) places ≡ min i places = omega (arith, k) in
+        let n : length (listOf a) ≡ places = omega (arith, length-listed a h (omega arith), k) in
+        ap (λ (x : List ℕ). listOf (wordsOf ((i + 1) + length ws) (wordsFrom x (i + 1) ws))) (skip _ _ l l e refl)
+        ∙ more l (i + 1) h
+        ∙ ap (λ (x : ℕ). take places (windowsIn (take (4 * x) l) ++ ws)) m
         ∙ take-at (listOf a) ws places n
         ∙ sym (take-at (listOf a) (w ∷ ws) places n)
 
 -- the copy of a lent list has its first 65 windows
 pub copy-is : (ws : List Window) → listOf (copyOf ws) ≡ take places ws
-copy-is ws = copy-from ws noWindows 0 (length-replicate {A = ℕ} 260 0) refl ∙ ap (λ (l : List Window). take places (l ++ ws)) no-words
+copy-is ws =
+    let n : length ws ≡ 0 + length ws = omega arith in
+    ap (λ (m : ℕ). listOf (wordsOf m (wordsFrom (replicate 260 0) 0 ws))) n
+    ∙ copy-from ws (replicate 260 0) 0 (length-replicate {A = ℕ} 260 0)
+    ∙ ap (λ (l : List Window). take places (l ++ ws)) no-words
 
 -- the words in use, taken again
 pub taken-again : (m : ℕ) (l : List ℕ) → take (length (take m l)) l ≡ take m l

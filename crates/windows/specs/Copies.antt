@@ -30,28 +30,25 @@ windowCount l = cond (eqb (length l % 4) 0) (min (length l / 4) places) places
 unfoldable pub windowsIn : List ℕ → List Window
 windowsIn l = tab (windowCount l) (windowIn l)
 
--- no window
-abbrev pub noWindows : D.Windows
-noWindows = record { count = 0; list = replicate 260 0 }
-
--- words with one window more, that of index i; none behind the last place
-abbrev pub withWindow : D.Windows → ℕ → Window → D.Windows
-withWindow a i w =
+-- words with the window of index i; none behind the last place
+abbrev pub wordsWith : List ℕ → ℕ → Window → List ℕ
+wordsWith l i w =
     cond (ltb i places)
-    (record {
-      count = i + 1;
-      list = set (set (set (set (a .list) (4 * i) (w .node)) (4 * i + 1) (w .first)) (4 * i + 2) (w .end)) (4 * i + 3) (w .demand);
-    })
-    a
+    (set (set (set (set l (4 * i) (w .node)) (4 * i + 1) (w .first)) (4 * i + 2) (w .end)) (4 * i + 3) (w .demand))
+    l
 
--- words with the windows ws more, the first of which has index i
-abbrev pub copyFrom : D.Windows → ℕ → List Window → D.Windows
-copyFrom a i [] = a
-copyFrom a i (w ∷ ws) = copyFrom (withWindow a i w) (i + 1) ws
+-- words with the windows ws, the first of which has index i
+abbrev pub wordsFrom : List ℕ → ℕ → List Window → List ℕ
+wordsFrom l i [] = l
+wordsFrom l i (w ∷ ws) = wordsFrom (wordsWith l i w) (i + 1) ws
+
+-- the words l of n windows: those behind the last place are not counted
+abbrev pub wordsOf : ℕ → List ℕ → D.Windows
+wordsOf n l = record { count = min n places; list = l }
 
 -- the words of a lent list
 abbrev pub copyOf : List Window → D.Windows
-copyOf ws = copyFrom noWindows 0 ws
+copyOf ws = wordsOf (length ws) (wordsFrom (replicate 260 0) 0 ws)
 
 -- the words in use, and the list that they stand for
 abbrev pub windowWords : D.Windows → List ℕ

@@ -2,12 +2,12 @@
 ghost use mathlib.Core.Path.{_≡_};
 ghost use Prim.Native.Nat.{_<_};
 ghost use lib.Dec.{eqb};
-ghost use lib.ListN.{length};
+ghost use lib.ListN.{length, replicate};
 ghost use Rattle.lists.specs.All.{allBelow};
 ghost use mathlib.Core.Bool.{not, cond};
 ghost use Rattle.windows.specs.Windows.{dayOk, windowOk, isDue, overlap, entryOk, listOk, dueAll, lookedOf};
 ghost use Rattle.windows.specs.Inner.{follows, orderedAt, entryOf, entryDue, begunOf, turnOf, toldOf};
-ghost use Rattle.windows.specs.Copies.{windowIn, windowCount, windowsIn, noWindows, withWindow, copyOf, windowWords};
+ghost use Rattle.windows.specs.Copies.{windowIn, windowCount, windowsIn, wordsWith, wordsOf, copyOf, windowWords};
 
 // What a node wants from an epoch of the day up to the one before `end`. The fields lie as C has them.
 #[repr(C)]
@@ -54,30 +54,31 @@ fn is_due(node: u32, epoch: u32, w: Window) -> bool
     (w.node == node) & ((w.first <= epoch) & (epoch < w.end))
 }
 
-// One window more, taken apart; none behind the last place.
-fn with_window(a: Windows, i: usize, node: u32, first: u32, end: u32, demand: u32) -> Windows
-    ensures { λ r. ⌜ r ≡ withWindow a i (record { node = node; first = first; end = end; demand = demand }) ⌝ }
+// The window of an index, taken apart, put into its words; none behind the last place.
+fn put_window(l: &mut [u32], i: usize, node: u32, first: u32, end: u32, demand: u32)
+    requires { ⌜ length (now l) ≡ 260 ⌝ }
+    ensures { λ _. ⌜ now (l .exit) ≡ wordsWith (now (l .entry)) i (record { node = node; first = first; end = end; demand = demand }) ⌝ }
 {
-    let mut r = a;
     if i < 65 {
-        r.list[4 * i] = node;
-        r.list[4 * i + 1] = first;
-        r.list[4 * i + 2] = end;
-        r.list[4 * i + 3] = demand;
-        r.count = i + 1;
+        l[4 * i] = node;
+        l[4 * i + 1] = first;
+        l[4 * i + 2] = end;
+        l[4 * i + 3] = demand;
     }
-    r
 }
 
 impl Windows {
-    // No window.
-    pub fn none() -> Windows
-        ensures { λ r. ⌜ r ≡ noWindows ⌝ }
+    // The words of so many windows; those behind the last place are not counted.
+    fn of(windows: usize, list: [u32; 260]) -> Windows
+        ensures { λ r. ⌜ r ≡ wordsOf windows list ⌝ }
     {
-        Windows {
-            count: 0,
-            list: [0u32; 260],
+        if windows < 65 {
+            return Windows {
+                count: windows,
+                list,
+            };
         }
+        Windows { count: 65, list }
     }
 
     // How many words are in use.
@@ -261,18 +262,26 @@ fn due_or(w: Window, node: u32, epoch: u32, d: u32) -> u32
     d
 }
 
-// The lent list, copied: the one lookup that reads records lent, and takes each apart.
+// The words of no window.
+fn no_words() -> [u32; 260]
+    ensures { λ r. ⌜ r ≡ replicate 260 0 ⌝ }
+{
+    [0u32; 260]
+}
+
+// The lent list, copied: the one lookup that reads records lent, and takes each apart. The words are lent to each turn, so that a window
+// costs four stores.
 pub fn copied(ws: &[Window]) -> Windows
     ensures { λ r. ⌜ r ≡ copyOf (now (ws .entry)) ⌝ }
 {
-    let mut a = Windows::none();
+    let mut list = no_words();
     let mut i = 0;
     while i < ws.len() {
         let w = ws[i];
-        a = with_window(a, i, w.node, w.first, w.end, w.demand);
+        put_window(&mut list, i, w.node, w.first, w.end, w.demand);
         i = i + 1;
     }
-    a
+    Windows::of(i, list)
 }
 
 // Whether a list keeps the rules, and the demand of a node as an epoch begins; where it keeps none, the demand as it was.

@@ -47,7 +47,7 @@ use denote.Triple.Walked.{goes-none, goes-ref, Walks, ends-at, walked, walk-meet
 use denote.Exit.{yes}
 use Rattle.windows.specs.declared.Window.{Window}
 use Rattle.windows.specs.declared.Windows.{Windows}
-use Rattle.windows.specs.Copies.{noWindows, copyFrom, listOf}
+use Rattle.windows.specs.Copies.{copyOf, listOf}
 use Rattle.desk.specs.declared.Replayed.{Replayed}
 use Rattle.desk.specs.declared.View.the-variants.{Reasons}
 use Rattle.windows.proofs.Window as N
@@ -154,7 +154,7 @@ module _ {M : Type 1} (𝓤 : URA M) (H : Heap 𝓤) (A : Atoms 𝓤) (W : Given
   abbrev Post : Val → SProp 𝓤
   Post = walkOf 𝓤 H A f.ended stayed (f.clauses 𝓤 H A at-mem run) .post bound
 
-  exits : (w : Windows) (r : Replayed) (zs-area : List ℕ) (zs-out : List ℕ) → w ≡ copyFrom noWindows 0 ys
+  exits : (w : Windows) (r : Replayed) (zs-area : List ℕ) (zs-out : List ℕ) → w ≡ copyOf ys
       → (r ≡ replayedOf (Reasons n-j) n-day (listOf w) xs-script xs-area xs-out h)
       × (zs-area ≡ areaAfterRun (Reasons n-j) n-day (listOf w) xs-script xs-area xs-out)
       × (zs-out ≡ outAfter (Reasons n-j) n-day (listOf w) xs-script xs-area xs-out) → length zs-area ≡ length xs-area → length zs-out
@@ -189,8 +189,8 @@ module _ {M : Type 1} (𝓤 : URA M) (H : Heap 𝓤) (A : Atoms 𝓤) (W : Given
       nothing ! $ move ! (1 ∷ 0 ∷ []) $ join ! $ nothing ! $ move ! (2 ∷ 0 ∷ []) $ fjoin ! $ move ! (1 ∷ 0 ∷ []) $ join ! $ frame ! $ done !
 
   said-look : (w : Windows) → ent 𝓤 (ensured 𝓤 H A g₁.ended (g₁.clauses 𝓤 H A at-mem run) (κ4, tt) args-look tt w)
-      (fact 𝓤 (w ≡ copyFrom noWindows 0 ys))
-  said-look w = exE 𝓤 _ (λ ws. snd∗ 𝓤 (sem 𝓤 H A (lasts g₁.ended (κ4, tt) args-look ws)) (fact 𝓤 (w ≡ copyFrom noWindows 0 ys)))
+      (fact 𝓤 (w ≡ copyOf ys))
+  said-look w = exE 𝓤 _ (λ ws. snd∗ 𝓤 (sem 𝓤 H A (lasts g₁.ended (κ4, tt) args-look ws)) (fact 𝓤 (w ≡ copyOf ys)))
 
   abbrev args-inner : Windows → RefT (List ℕ) × (ℕ × (RefT (List ℕ) × (RefT (List ℕ) × (ℕ × (ℕ × (Windows × Unit {0}))))))
   args-inner w = (x-script, (n-j, (x-area, (x-out, (h, (n-day, (w, tt)))))))
@@ -253,8 +253,8 @@ module _ {M : Type 1} (𝓤 : URA M) (H : Heap 𝓤) (A : Atoms 𝓤) (W : Given
         calls-at ! fm (Look 𝓤 H A at-mem run) known-look to-look (and-then ! (load ! (from ! (stop !)) (look ! 16 refl)) (no-more !)) (λ u.
         use1 W (later (some (λ (w : Windows). ((‵ (flft κ4 q4) ⊛ ‵ ftrue) ⊛ ‵ (S.the-row .own w (u ∷ []))) ⊛ raw
         (ensured 𝓤 H A g₁.ended (g₁.clauses 𝓤 H A at-mem run) (κ4, tt) args-look tt w)))) (id⊢ 𝓤 _) $ await ! tt $ pick ! (λ w.
-        split ! $ move ! (1 ∷ []) $ use1 W (raw (fact 𝓤 (w ≡ copyFrom noWindows 0 ys))) (said-look w)
-        $ heard ! (w ≡ copyFrom noWindows 0 ys) (λ e₁. split ! $ split ! $ move ! (1 ∷ []) $ drop ! $ move ! (1 ∷ []) $
+        split ! $ move ! (1 ∷ []) $ use1 W (raw (fact 𝓤 (w ≡ copyOf ys))) (said-look w)
+        $ heard ! (w ≡ copyOf ys) (λ e₁. split ! $ split ! $ move ! (1 ∷ []) $ drop ! $ move ! (1 ∷ []) $
         peeks ! S.the-row (Is S.the-row) (shows 𝓤 H A S.the-row) w (u ∷ [])
         (λ is₁. land ! (from ! (stop !)) (init ! 15 refl (LL.lawful S.the-type S′.the-laws 𝓤 H A W .typed w _ is₁ .0)) $ drop ! $
         -- the number is copied out of its borrow

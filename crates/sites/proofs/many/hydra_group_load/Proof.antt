@@ -48,7 +48,7 @@ use denote.Exit.{yes}
 use Rattle.node.specs.declared.Config.{Config}
 use Rattle.windows.specs.declared.Window.{Window}
 use Rattle.windows.specs.declared.Windows.{Windows}
-use Rattle.windows.specs.Copies.{noWindows, copyFrom, listOf}
+use Rattle.windows.specs.Copies.{copyOf, listOf}
 use Rattle.windows.proofs.Window as N
 use Rattle.windows.proofs.Windows as S
 use Rattle.windows.proofs.Windows.Laws as S′
@@ -246,7 +246,7 @@ module _ {M : Type 1} (𝓤 : URA M) (H : Heap 𝓤) (A : Atoms 𝓤) (W : Given
       × ((area : List ℕ) → groupIn (memory zs-words zs-bytes zs-table) area ≡ groupRows m area n-a figures xs-rows n-day ws)
 
   -- the copy of the windows tells the same as they do
-  copied-told : (w : Windows) (r : Tallied) (zs-words zs-bytes zs-table : List ℕ) → w ≡ copyFrom noWindows 0 ys → Told (listOf w) r
+  copied-told : (w : Windows) (r : Tallied) (zs-words zs-bytes zs-table : List ℕ) → w ≡ copyOf ys → Told (listOf w) r
       zs-words zs-bytes zs-table → Told ys r zs-words zs-bytes zs-table
   copied-told w r zs-words zs-bytes zs-table e₁ e =
       let d = subst (λ (z : Windows). Told (listOf z) r zs-words zs-bytes zs-table) e₁ e in
@@ -298,8 +298,8 @@ module _ {M : Type 1} (𝓤 : URA M) (H : Heap 𝓤) (A : Atoms 𝓤) (W : Given
       nothing ! $ move ! (1 ∷ 0 ∷ []) $ join ! $ nothing ! $ move ! (2 ∷ 0 ∷ []) $ fjoin ! $ move ! (1 ∷ 0 ∷ []) $ join ! $ frame ! $ done !
 
   said-look : (w : Windows) → ent 𝓤 (ensured 𝓤 H A g₁.ended (g₁.clauses 𝓤 H A at-mem run) (κ4, tt) args-look tt w)
-      (fact 𝓤 (w ≡ copyFrom noWindows 0 ys))
-  said-look w = exE 𝓤 _ (λ ws. snd∗ 𝓤 (sem 𝓤 H A (lasts g₁.ended (κ4, tt) args-look ws)) (fact 𝓤 (w ≡ copyFrom noWindows 0 ys)))
+      (fact 𝓤 (w ≡ copyOf ys))
+  said-look w = exE 𝓤 _ (λ ws. snd∗ 𝓤 (sem 𝓤 H A (lasts g₁.ended (κ4, tt) args-look ws)) (fact 𝓤 (w ≡ copyOf ys)))
 
   abbrev args-inner : Windows → RefT (List ℕ)
       × (RefT (List ℕ) × (RefT (List ℕ) × (ℕ × (ℕ × (ℕ × (ℕ × (ℕ × (ℕ × (RefT (List ℕ) × (ℕ × (Windows × (Tally × Unit {0}))))))))))))
@@ -411,8 +411,8 @@ module _ {M : Type 1} (𝓤 : URA M) (H : Heap 𝓤) (A : Atoms 𝓤) (W : Given
         calls-at ! fm (Look 𝓤 H A at-mem run) known-look to-look (and-then ! (load ! (from ! (stop !)) (look ! 22 refl)) (no-more !)) (λ u.
         use1 W (later (some (λ (w : Windows). ((‵ (flft κ4 q4) ⊛ ‵ ftrue) ⊛ ‵ (S.the-row .own w (u ∷ []))) ⊛ raw
         (ensured 𝓤 H A g₁.ended (g₁.clauses 𝓤 H A at-mem run) (κ4, tt) args-look tt w)))) (id⊢ 𝓤 _) $ await ! tt $ pick ! (λ w.
-        split ! $ move ! (1 ∷ []) $ use1 W (raw (fact 𝓤 (w ≡ copyFrom noWindows 0 ys))) (said-look w)
-        $ heard ! (w ≡ copyFrom noWindows 0 ys) (λ e₁. split ! $ split ! $ move ! (1 ∷ []) $ drop ! $ move ! (1 ∷ []) $
+        split ! $ move ! (1 ∷ []) $ use1 W (raw (fact 𝓤 (w ≡ copyOf ys))) (said-look w)
+        $ heard ! (w ≡ copyOf ys) (λ e₁. split ! $ split ! $ move ! (1 ∷ []) $ drop ! $ move ! (1 ∷ []) $
         peeks ! S.the-row (Is S.the-row) (shows 𝓤 H A S.the-row) w (u ∷ [])
         (λ is₁. land ! (from ! (stop !)) (init ! 19 refl (LL.lawful S.the-type S′.the-laws 𝓤 H A W .typed w _ is₁ .0)) $ drop ! $
         -- the tally is copied out of its borrow

@@ -49,7 +49,7 @@ use denote.Triple.Walked.{goes-none, goes-ref, Walks, ends-at, walked, walk-meet
 use denote.Exit.{yes}
 use Rattle.windows.specs.declared.Window.{Window}
 use Rattle.windows.specs.declared.Windows.{Windows}
-use Rattle.windows.specs.Copies.{noWindows, copyFrom, listOf}
+use Rattle.windows.specs.Copies.{copyOf, listOf}
 use Rattle.windows.proofs.Window as N
 use Rattle.windows.proofs.Windows as S
 use Rattle.windows.proofs.Windows.Laws as S′
@@ -221,7 +221,7 @@ module _ {M : Type 1} (𝓤 : URA M) (H : Heap 𝓤) (A : Atoms 𝓤) (W : Given
       × (keptOf (store zs-words zs-bytes) zs-area (r .tally) ≡ keptAfterEvent s xs-area ws h xs-reports line)
 
   -- the copy of the windows tells the same as they do
-  copied-told : (w : Windows) (r : Tallied) (zs-words zs-bytes zs-area zs-reports : List ℕ) → w ≡ copyFrom noWindows 0 ys → Told (listOf
+  copied-told : (w : Windows) (r : Tallied) (zs-words zs-bytes zs-area zs-reports : List ℕ) → w ≡ copyOf ys → Told (listOf
       w) r zs-words zs-bytes zs-area zs-reports → Told ys r zs-words zs-bytes zs-area zs-reports
   copied-told w r zs-words zs-bytes zs-area zs-reports e₁ e =
       let d = subst (λ (z : Windows). Told (listOf z) r zs-words zs-bytes zs-area zs-reports) e₁ e in
@@ -271,8 +271,8 @@ module _ {M : Type 1} (𝓤 : URA M) (H : Heap 𝓤) (A : Atoms 𝓤) (W : Given
       nothing ! $ move ! (1 ∷ 0 ∷ []) $ join ! $ nothing ! $ move ! (2 ∷ 0 ∷ []) $ fjoin ! $ move ! (1 ∷ 0 ∷ []) $ join ! $ frame ! $ done !
 
   said-look : (w : Windows) → ent 𝓤 (ensured 𝓤 H A g₁.ended (g₁.clauses 𝓤 H A at-mem run) (κ3, tt) args-look tt w)
-      (fact 𝓤 (w ≡ copyFrom noWindows 0 ys))
-  said-look w = exE 𝓤 _ (λ ws. snd∗ 𝓤 (sem 𝓤 H A (lasts g₁.ended (κ3, tt) args-look ws)) (fact 𝓤 (w ≡ copyFrom noWindows 0 ys)))
+      (fact 𝓤 (w ≡ copyOf ys))
+  said-look w = exE 𝓤 _ (λ ws. snd∗ 𝓤 (sem 𝓤 H A (lasts g₁.ended (κ3, tt) args-look ws)) (fact 𝓤 (w ≡ copyOf ys)))
 
   abbrev args-inner : Windows → RefT (List ℕ)
       × (RefT (List ℕ) × (RefT (List ℕ) × (RefT (List ℕ) × (ℕ × (ℕ × (ℕ × (Windows × (Tally × Unit {0}))))))))
@@ -394,8 +394,8 @@ module _ {M : Type 1} (𝓤 : URA M) (H : Heap 𝓤) (A : Atoms 𝓤) (W : Given
             (no-more !)) (λ u.
             use1 W (later (some (λ (w : Windows). ((‵ (flft κ3 q3) ⊛ ‵ ftrue) ⊛ ‵ (S.the-row .own w (u ∷ []))) ⊛ raw
             (ensured 𝓤 H A g₁.ended (g₁.clauses 𝓤 H A at-mem run) (κ3, tt) args-look tt w)))) (id⊢ 𝓤 _) $ await ! tt $ pick ! (λ w.
-            split ! $ move ! (1 ∷ []) $ use1 W (raw (fact 𝓤 (w ≡ copyFrom noWindows 0 ys))) (said-look w)
-            $ heard ! (w ≡ copyFrom noWindows 0 ys) (λ e₁. split ! $ split ! $ move ! (1 ∷ []) $ drop ! $ move ! (1 ∷ []) $
+            split ! $ move ! (1 ∷ []) $ use1 W (raw (fact 𝓤 (w ≡ copyOf ys))) (said-look w)
+            $ heard ! (w ≡ copyOf ys) (λ e₁. split ! $ split ! $ move ! (1 ∷ []) $ drop ! $ move ! (1 ∷ []) $
             peeks ! S.the-row (Is S.the-row) (shows 𝓤 H A S.the-row) w (u ∷ [])
             (λ is₁. land ! (from ! (stop !)) (init ! 45 refl (LL.lawful S.the-type S′.the-laws 𝓤 H A W .typed w _ is₁ .0)) $ drop ! $
             assigns ! (addr ! (from ! (fld ! refl (hop ! (look-in ! 66 (sub ! 0 refl (whole !))) (stop !))))) (from ! (stop !))
