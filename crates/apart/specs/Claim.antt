@@ -17,7 +17,7 @@ use Rattle.words.specs.Bits.{isIn}
 use Rattle.node.specs.declared.Answer.the-variants.{Done, OwnPacket, WrongSender}
 use Rattle.area.specs.Area.{encoded, decoded, valid}
 use Rattle.host.specs.Calls.{hearingOf, takingOf, groundSize, closingOf, endingOf, slotsSize, slotsAnswer}
-use Rattle.host.specs.Slots.{toldSlot}
+use Rattle.host.specs.Slots.{slotShown}
 use Rattle.node.specs.declared.Config.{Config}
 use Rattle.site.specs.declared.Table.{Table}
 use Rattle.site.specs.declared.Event.{Event}
@@ -96,7 +96,7 @@ pub record Gets (A : Apart) (j k : ℕ) : Type 0 where
   pub numbered : 1 ≤ j
   pub up : boxNow A j .up ≡ true
   pub answer : slotsAnswer (boxNow A j .area) (zeros slotsSize) ≡ Done
-  pub has : toldSlot (boxSlots (boxNow A j)) k ≡ true
+  pub has : slotShown (boxSlots (boxNow A j)) k ≡ true
 
 -- a service knows by either call that the slot is its box's own
 pub data Knows (A : Apart) (j k : ℕ) : Type 0 where

@@ -7,7 +7,7 @@ ghost use Rattle.lists.specs.Bytes.{flat, window, written};
 ghost use Rattle.allotment.specs.Allotment.{free};
 ghost use Rattle.masks.specs.Bytes.{ownRead};
 ghost use Rattle.node.specs.Core.{coreOf, bare};
-ghost use Rattle.wire.specs.Layout.{scheduleTold};
+ghost use Rattle.wire.specs.Layout.{scheduleWritten};
 ghost use Rattle.area.specs.Area.{nodeSize, atSchedule, smallOf, frontOf, decodedWith};
 ghost use Rattle.area.specs.Steps.{noNode, areaFits, areaRead, areaStepped, areaHolding};
 use masks::NodeSlots;
@@ -227,7 +227,7 @@ pub fn read(s: &[u8]) -> AreaRead
 
 // The version of a node and the schedule that its area holds, for n nodes, as on the air, at the start of an output that has room for them.
 pub fn tell(s: &[u8], version: u32, n: u32, out: &mut [u8])
-    ensures { λ _. ⌜ now (out .exit) ≡ scheduleTold version (now (s .entry)) atSchedule n (now (out .entry)) ⌝ }
+    ensures { λ _. ⌜ now (out .exit) ≡ scheduleWritten version (now (s .entry)) atSchedule n (now (out .entry)) ⌝ }
 {
     wire::write_schedule(out, version, s, SCHEDULE as usize, n);
 }

@@ -34,7 +34,7 @@ pub struct RunResult {
 
 // What a line gives: its answer with the day after it, and what a node reports of it.
 struct LineResult {
-    turned: DayAnswer,
+    step: DayAnswer,
     report: NodeReport,
 }
 

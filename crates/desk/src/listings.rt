@@ -69,7 +69,7 @@ fn take_line(
 {
     match p {
         Parsed::Malformed => LineResult {
-            turned: DayAnswer {
+            step: DayAnswer {
                 answer: Answer::OutOfRange,
                 day,
             },
@@ -77,8 +77,8 @@ fn take_line(
         },
         Parsed::Good(e) => {
             let report = event_report(words, bytes, area, e, v);
-            let turned = machine::timed::step_tested(words, bytes, area, day, e, w, true);
-            LineResult { turned, report }
+            let step = machine::timed::step_tested(words, bytes, area, day, e, w, true);
+            LineResult { step, report }
         }
     }
 }
@@ -153,11 +153,11 @@ fn run(
                     w,
                     v,
                 );
-                let turned = r.turned;
+                let step = r.step;
                 let report = r.report;
-                let a = turned.answer;
+                let a = step.answer;
                 pos = put_line(out, pos, v, n, a, report);
-                day = turned.day;
+                day = step.day;
                 at = e + 1;
             }
         }

@@ -31,7 +31,7 @@ use Rattle.area.proofs.Canon.{lengths, canonical, accepted, length-encoded}
 use Rattle.host.specs.Report.{reportSize, report}
 use Rattle.host.specs.Calls.{andThen, isSized, output, unlessRefused, beginning, afterBegin, restarting, afterRestart, sentAnswer}
 use Rattle.host.specs.Calls.{sendingOf, outSend, heardAnswer, hearingOf, afterHear, groundBytes, closedAnswer, closingOf, afterClose}
-use Rattle.host.specs.Calls.{closeBytes, outClose, toldClose, takenAnswer, takingOf, afterTake, endingOf, afterEnd, wantingOf}
+use Rattle.host.specs.Calls.{closeBytes, outClose, groundClose, takenAnswer, takingOf, afterTake, endingOf, afterEnd, wantingOf}
 use Rattle.host.specs.Calls.{afterWant, roomAnswer, readingOf, outRead, ownSlots, outputAnswer, slotsAnswer, outSlots}
 use Rattle.host.specs.Owners.{BoxCall, begins, restarts, sends, hears, closes, takes, ends, wants, reads, slots, seenOn}
 use Rattle.host.specs.Owners.{areaAfterCall}
@@ -71,7 +71,7 @@ module _ (n : Node) (long : Lengths n) (range : inRange n ≡ true) where
   written-by x y f out e = ap₂ (λ (z : Answer) (m : Node). output z (f m) out) e (back-is n long range)
 
   outputs : (c : BoxCall) → seenOn a c .outputs ≡ nodeOutputs n c
-  unfolding outSend outClose toldClose outRead outSlots
+  unfolding outSend outClose groundClose outRead outSlots
   outputs (begins s v flags d) = refl
   outputs (restarts s flags f) = refl
   outputs (sends out) = ap (λ (o : List ℕ). o ∷ []) (written-by _ _ (λ m. packetBytes (packetOf m)) out (answers (sends out)))

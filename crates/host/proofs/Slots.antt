@@ -45,7 +45,7 @@ use Rattle.area.proofs.Masked.{slots-held, own-is, own-row}
 use Rattle.host.specs.Report.{reportSize, report}
 use Rattle.host.specs.Calls.{andThen, isNodeArea, roomAnswer, output, readingOf, outRead, slotsSize, isOwn, ownSlots, outputAnswer}
 use Rattle.host.specs.Calls.{slotsAnswer, outSlots}
-use Rattle.host.specs.Slots.{shownOwner, shownPhase, toldSlot, RowOf, SlotsTold}
+use Rattle.host.specs.Slots.{shownOwner, shownPhase, slotShown, RowOf, SlotsShown}
 use Rattle.host.proofs.Answers.{a-node}
 use Rattle.host.proofs.Nodes.{talks, roomy, length-report, phase-in, its-own, back-is}
 
@@ -152,7 +152,7 @@ module _ (a words : List ℕ) (d : slotsAnswer a words ≡ Done) where
   unfolding ownSlots
   count-is = ap (λ (l : List ℕ). getD l 2 0) (slots-are a words d)
 
-  told-is : (k : ℕ) → toldSlot (outSlots a words) k ≡ isOwn n k
+  told-is : (k : ℕ) → slotShown (outSlots a words) k ≡ isOwn n k
   told-is k = ap₂ (λ (x y : ℕ). hasSlot x y k) low-is high-is
       ∙ word-slot (isOwn n) (own-none n (lengths a) (numbered a (slots-valid a words d) .0)) k
 
@@ -198,7 +198,7 @@ module _ (m n : Node) (lm : Lengths m) (rm : inRange m ≡ true) (ln : Lengths n
 
 -- the numbers of two calls that tell no slot in common share no bit
 module _ (a b v w : List ℕ) (d : slotsAnswer a v ≡ Done) (e : slotsAnswer b w ≡ Done)
-    (apart : (k : ℕ) → toldSlot (outSlots a v) k ≡ true → toldSlot (outSlots b w) k ≡ true → ⊥) where
+    (apart : (k : ℕ) → slotShown (outSlots a v) k ≡ true → slotShown (outSlots b w) k ≡ true → ⊥) where
   abbrev one : ℕ → ℕ
   one i = getD (outSlots a v) i 0
 
@@ -229,12 +229,12 @@ module _ (a b v w : List ℕ) (d : slotsAnswer a v ≡ Done) (e : slotsAnswer b 
   pub words-apart : (Bits.bitAnd (one 0) (two 0) ≡ 0) × (Bits.bitAnd (one 1) (two 1) ≡ 0)
   words-apart = (low-apart, high-apart)
 
-pub slots-told : SlotsTold
-slots-told =
+pub slots-shown : SlotsShown
+slots-shown =
     record {
       shown = λ a out d i k l m. slots-held .schedule a (read-valid a out d) .slots i k l m
           ∙ ap (λ (x : ℕ). eqb x (i + 1)) (sym (shown-is a out d k));
-      told = λ a words out d e k. told-is a words d k ∙ ap (λ (x : ℕ). eqb x (decoded a .setup .node)) (sym (shown-is a out e k));
+      own = λ a words out d e k. told-is a words d k ∙ ap (λ (x : ℕ). eqb x (decoded a .setup .node)) (sym (shown-is a out e k));
       counted = λ a words out d e.
           count-is a words d
           ∙ howMany-ext 80 (isOwn (decoded a)) (λ k. eqb (shownOwner (outRead a out) k) (decoded a .setup .node))

@@ -107,25 +107,25 @@ groundBytes g = ruleNumber (g .rule) ∷ g .missing ∷ []
 
 -- a node's answer to a close with an output and a place for its ground: 4, 15
 abbrev pub closedAnswer : Node → List ℕ → List ℕ → Answer
-closedAnswer n out told = andThen (closeAnswer n) (andThen (roomAnswer groundSize told) (closeRoom (closedNode n) out))
+closedAnswer n out ground = andThen (closeAnswer n) (andThen (roomAnswer groundSize ground) (closeRoom (closedNode n) out))
 
 -- close: 14, 4, 15
 unfoldable pub closingOf : List ℕ → List ℕ → List ℕ → Answer
-closingOf a out told = andThen (isNodeArea a) (closedAnswer (decoded a) out told)
+closingOf a out ground = andThen (isNodeArea a) (closedAnswer (decoded a) out ground)
 
 unfoldable pub afterClose : List ℕ → List ℕ → List ℕ → List ℕ
-afterClose a out told = unlessRefused (closingOf a out told) (closedNode (decoded a)) a
+afterClose a out ground = unlessRefused (closingOf a out ground) (closedNode (decoded a)) a
 
 -- what a close sends: version and schedule, or nothing
 abbrev pub closeBytes : Node → List ℕ
 closeBytes n = cond (sending (n .phase)) (scheduleBytes (sentBy n)) []
 
 unfoldable pub outClose : List ℕ → List ℕ → List ℕ → List ℕ
-outClose a out told = output (closingOf a out told) (closeBytes (closedNode (decoded a))) out
+outClose a out ground = output (closingOf a out ground) (closeBytes (closedNode (decoded a))) out
 
 -- what the place of the ground holds then
-unfoldable pub toldClose : List ℕ → List ℕ → List ℕ → List ℕ
-toldClose a out told = output (closingOf a out told) (groundBytes (groundOf (decoded a))) told
+unfoldable pub groundClose : List ℕ → List ℕ → List ℕ → List ℕ
+groundClose a out ground = output (closingOf a out ground) (groundBytes (groundOf (decoded a))) ground
 
 -- a node's answer to a schedule's bytes: 4, 10, 11, 12
 abbrev pub takenAnswer : Node → List ℕ → Answer

@@ -25,7 +25,8 @@ use Rattle.wire.specs.Layout.{packetBytes, packetIn, scheduleIn}
 use Rattle.area.specs.Area.{nodeSize, encoded, decoded, valid}
 use Rattle.host.specs.Report.{reportSize, report}
 use Rattle.host.specs.Calls.{output, beginning, afterBegin, restarting, afterRestart, sentAnswer, sendingOf, outSend, heardAnswer}
-use Rattle.host.specs.Calls.{hearingOf, afterHear, groundBytes, closedAnswer, closingOf, afterClose, closeBytes, outClose, toldClose}
+use Rattle.host.specs.Calls.{hearingOf, afterHear, groundBytes, closedAnswer, closingOf, afterClose, closeBytes, outClose}
+use Rattle.host.specs.Calls.{groundClose}
 use Rattle.host.specs.Calls.{takenAnswer, takingOf, afterTake, endingOf, afterEnd, wantingOf, afterWant, roomAnswer, readingOf}
 use Rattle.host.specs.Calls.{outRead}
 use Rattle.host.specs.Calls.{ownSlots, outputAnswer, slotsAnswer, outSlots}
@@ -55,7 +56,7 @@ seenOn a (begins s v flags d) = record { answer = beginning a s v flags d; outpu
 seenOn a (restarts s flags f) = record { answer = restarting a s flags f; outputs = [] }
 seenOn a (sends out) = record { answer = sendingOf a out; outputs = outSend a out ∷ [] }
 seenOn a (hears p) = record { answer = hearingOf a p; outputs = [] }
-seenOn a (closes out told) = record { answer = closingOf a out told; outputs = outClose a out told ∷ toldClose a out told ∷ [] }
+seenOn a (closes out ground) = record { answer = closingOf a out ground; outputs = outClose a out ground ∷ groundClose a out ground ∷ [] }
 seenOn a (takes q) = record { answer = takingOf a q; outputs = [] }
 seenOn a ends = record { answer = endingOf a; outputs = [] }
 seenOn a (wants d) = record { answer = wantingOf a d; outputs = [] }
@@ -67,7 +68,7 @@ areaAfterCall a (begins s v flags d) = afterBegin a s v flags d
 areaAfterCall a (restarts s flags f) = afterRestart a s flags f
 areaAfterCall a (sends out) = a
 areaAfterCall a (hears p) = afterHear a p
-areaAfterCall a (closes out told) = afterClose a out told
+areaAfterCall a (closes out ground) = afterClose a out ground
 areaAfterCall a (takes q) = afterTake a q
 areaAfterCall a ends = afterEnd a
 areaAfterCall a (wants d) = afterWant a d
@@ -81,7 +82,7 @@ nodeCallAnswer n (begins s v flags d) = startAnswer s v flags d
 nodeCallAnswer n (restarts s flags f) = restartAnswer s flags f
 nodeCallAnswer n (sends out) = sentAnswer n out
 nodeCallAnswer n (hears p) = heardAnswer n p
-nodeCallAnswer n (closes out told) = closedAnswer n out told
+nodeCallAnswer n (closes out ground) = closedAnswer n out ground
 nodeCallAnswer n (takes q) = takenAnswer n q
 nodeCallAnswer n ends = endAnswer n
 nodeCallAnswer n (wants d) = cond (ltb topRequest d) OutOfRange Done
@@ -93,8 +94,8 @@ nodeOutputs n (begins s v flags d) = []
 nodeOutputs n (restarts s flags f) = []
 nodeOutputs n (sends out) = output (sentAnswer n out) (packetBytes (packetOf n)) out ∷ []
 nodeOutputs n (hears p) = []
-nodeOutputs n (closes out told) = output (closedAnswer n out told) (closeBytes (closedNode n)) out
-    ∷ output (closedAnswer n out told) (groundBytes (groundOf n)) told ∷ []
+nodeOutputs n (closes out ground) = output (closedAnswer n out ground) (closeBytes (closedNode n)) out
+    ∷ output (closedAnswer n out ground) (groundBytes (groundOf n)) ground ∷ []
 nodeOutputs n (takes q) = []
 nodeOutputs n ends = []
 nodeOutputs n (wants d) = []
@@ -110,7 +111,7 @@ nextNode n (begins s v flags d) = starting s v flags d
 nextNode n (restarts s flags f) = waiting s flags f 0
 nextNode n (sends out) = n
 nextNode n (hears p) = heardNode n (packetIn p)
-nextNode n (closes out told) = closedNode n
+nextNode n (closes out ground) = closedNode n
 nextNode n (takes q) = takenNode n (scheduleIn q)
 nextNode n ends = endedNode n
 nextNode n (wants d) = wantedNode n d

@@ -25,28 +25,28 @@ abbrev pub shownPhase : List ℕ → ℕ
 shownPhase report = getD report 94 0
 
 -- the numbers that `hydra_slots` wrote: whether they have the slot of index k, and how many they tell
-abbrev pub toldSlot : List ℕ → ℕ → Bool
-toldSlot told k = hasSlot (getD told 0 0) (getD told 1 0) k
+abbrev pub slotShown : List ℕ → ℕ → Bool
+slotShown shown k = hasSlot (getD shown 0 0) (getD shown 1 0) k
 
-abbrev pub toldCount : List ℕ → ℕ
-toldCount told = getD told 2 0
+abbrev pub countShown : List ℕ → ℕ
+countShown shown = getD shown 2 0
 
 -- the numbers are what masks hold of the node at index i
-pub record RowOf (a : List ℕ) (i : ℕ) (told : List ℕ) : Type 0 where
-  pub low : getD told 0 0 ≡ lowOf (masksIn a atSchedule) i
-  pub high : getD told 1 0 ≡ highOf (masksIn a atSchedule) i
-  pub count : getD told 2 0 ≡ countOf (masksIn a atSchedule) i
+pub record RowOf (a : List ℕ) (i : ℕ) (shown : List ℕ) : Type 0 where
+  pub low : getD shown 0 0 ≡ lowOf (masksIn a atSchedule) i
+  pub high : getD shown 1 0 ≡ highOf (masksIn a atSchedule) i
+  pub count : getD shown 2 0 ≡ countOf (masksIn a atSchedule) i
 
 -- the statement: proved in proofs/Slots.antt
-pub record SlotsTold : Type 0 where
+pub record SlotsShown : Type 0 where
   -- `hydra_read` shows a node as a slot's owner just where the node's mask has the slot
   pub shown : (a out : List ℕ) → readingOf a out ≡ Done → (i k : ℕ) → i < 32 → k < 80
       → holds (masksIn a atSchedule) i k ≡ eqb (shownOwner (outRead a out) k) (i + 1)
   -- `hydra_slots` tells just the slots for which `hydra_read` shows the node's own number, and how many these are
-  pub told : (a words out : List ℕ) → slotsAnswer a words ≡ Done → readingOf a out ≡ Done
-      → (k : ℕ) → toldSlot (outSlots a words) k ≡ eqb (shownOwner (outRead a out) k) (decoded a .setup .node)
+  pub own : (a words out : List ℕ) → slotsAnswer a words ≡ Done → readingOf a out ≡ Done
+      → (k : ℕ) → slotShown (outSlots a words) k ≡ eqb (shownOwner (outRead a out) k) (decoded a .setup .node)
   pub counted : (a words out : List ℕ) → slotsAnswer a words ≡ Done → readingOf a out ≡ Done
-      → toldCount (outSlots a words) ≡ howMany 80 (λ k. eqb (shownOwner (outRead a out) k) (decoded a .setup .node))
+      → countShown (outSlots a words) ≡ howMany 80 (λ k. eqb (shownOwner (outRead a out) k) (decoded a .setup .node))
   -- it answers 0 in negotiation alone
   pub phase : (a words out : List ℕ) → slotsAnswer a words ≡ Done → readingOf a out ≡ Done → shownPhase (outRead a out) ≡ 0
   -- its numbers are the node's own of the masks

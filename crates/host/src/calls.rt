@@ -3,7 +3,7 @@
 ghost use mathlib.Core.Path.{_≡_};
 ghost use Rattle.node.specs.Answers.{number};
 ghost use Rattle.host.specs.Calls.{setupFrom, beginning, afterBegin, restarting, afterRestart, sendingOf, outSend, hearingOf};
-ghost use Rattle.host.specs.Calls.{afterHear, closingOf, afterClose, outClose, toldClose, takingOf, afterTake, endingOf, afterEnd};
+ghost use Rattle.host.specs.Calls.{afterHear, closingOf, afterClose, outClose, groundClose, takingOf, afterTake, endingOf, afterEnd};
 ghost use Rattle.host.specs.Calls.{wantingOf, afterWant, readingOf, outRead, slotsAnswer, outSlots};
 use crate::GROUND;
 use crate::NO_ROOM;
@@ -134,7 +134,7 @@ pub extern "C" fn hydra_close(area: &mut [u8], out: &mut [u8], ground: &mut [u8]
     ensures { λ r. ⌜ r ≡ number (closingOf (now (area .entry)) (now (out .entry)) (now (ground .entry))) ⌝ }
     ensures { λ _. ⌜ now (area .exit) ≡ afterClose (now (area .entry)) (now (out .entry)) (now (ground .entry)) ⌝ }
     ensures { λ _. ⌜ now (out .exit) ≡ outClose (now (area .entry)) (now (out .entry)) (now (ground .entry)) ⌝ }
-    ensures { λ _. ⌜ now (ground .exit) ≡ toldClose (now (area .entry)) (now (out .entry)) (now (ground .entry)) ⌝ }
+    ensures { λ _. ⌜ now (ground .exit) ≡ groundClose (now (area .entry)) (now (out .entry)) (now (ground .entry)) ⌝ }
 {
     let o = area::read(area);
     if !o.ok {

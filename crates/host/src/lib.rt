@@ -1,4 +1,5 @@
-// What the C service in the box calls: the node behind a lent area of bytes (calls), the demand of an epoch (lookup), the release (version).
+// What the C service in the box calls: the node behind a lent area of bytes (calls), the demand of an epoch (lookup), and the release
+// (version).
 mod calls;
 mod lookup;
 mod steps;

@@ -2,7 +2,7 @@
 ghost use mathlib.Core.Path.{_≡_};
 ghost use Rattle.node.specs.Answers.{number};
 ghost use Rattle.host.specs.lookup.Lookup.{nodesOk, demandAnswer, demandAfter};
-ghost use Rattle.host.specs.lookup.Inner.{answerBy, foundBy};
+ghost use Rattle.host.specs.lookup.Inner.{demandAnswerBy, foundBy};
 use crate::Found;
 use node::Answer;
 use node::Core;
@@ -18,7 +18,7 @@ fn nodes_ok(nodes: u32) -> bool
 
 // The answer, by the tests in their order; that of the list is made already.
 fn demand_answer(nodes: u32, node: u32, day: u32, good: bool, epoch: u32) -> Answer
-    ensures { λ r. ⌜ r ≡ answerBy nodes node day good epoch ⌝ }
+    ensures { λ r. ⌜ r ≡ demandAnswerBy nodes node day good epoch ⌝ }
 {
     if !nodes_ok(nodes) {
         return Answer::OutOfRange;

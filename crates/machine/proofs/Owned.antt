@@ -28,7 +28,7 @@ use Rattle.allotment.proofs.OwnSlots.{own-bit, own-lt, owns-own}
 use Rattle.allotment.proofs.TwoWords.{count-cat}
 use Rattle.machine.specs.Acts.{noNodeAt}
 use Rattle.machine.specs.Layout.{Store, bytesSize, configIn, schedulesAt}
-use Rattle.machine.specs.Loading.{memberRead, ownersTold}
+use Rattle.machine.specs.Loading.{memberRead, nodeOwnersWritten}
 use Rattle.machine.proofs.Whole.{at-place, schedule-read}
 
 -- the ones of a word that another has not are as many as pass a test that says so
@@ -72,8 +72,8 @@ told-as l at out to r h =
 
 -- told over a list of 80, they are that list
 pub told-whole : (s : Store) (j : ℕ) (out : List ℕ) → length out ≡ 80 → noNodeAt s j ≡ false
-    → ownersTold s j out 0 ≡ ownersOf (memberRead s j .node .schedule)
-unfolding ownersTold
+    → nodeOwnersWritten s j out 0 ≡ ownersOf (memberRead s j .node .schedule)
+unfolding nodeOwnersWritten
 told-whole s j out e p =
     let h = at-place s j p in
     let o = ownersOf (memberRead s j .node .schedule) in

@@ -7,4 +7,4 @@ pub mod Loading
 pub mod steps
 pub mod timed
 pub mod reports
-pub mod turn
+pub mod combined

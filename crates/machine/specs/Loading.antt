@@ -63,6 +63,6 @@ unfoldable pub slotsRead : Store → ℕ → ℕ
 slotsRead s j = cond (isLive (memberRead s j)) (howMany topSlots (λ k. eqb (ownerOf (memberRead s j .node .schedule) k) j)) 0
 
 -- the owners of node j's own schedule at a place of an output; of a number of none of the N nodes, and without room, nothing changes
-unfoldable pub ownersTold : Store → ℕ → List ℕ → ℕ → List ℕ
-ownersTold s j out to =
+unfoldable pub nodeOwnersWritten : Store → ℕ → List ℕ → ℕ → List ℕ
+nodeOwnersWritten s j out to =
     cond (noNodeAt s j) out (cond (leb (to + 80) (length out)) (written out to (ownersOf (memberRead s j .node .schedule))) out)

@@ -1,4 +1,4 @@
-// What a node does at its place: it sends, hears, takes and wants. Only the numbers that this moves are read and written.
+// What a node does at its place: it sends, hears, takes and wants. A hear and a take write its numbers whole, a want one byte of them.
 ghost use mathlib.Core.Path.{_≡_};
 ghost use Prim.Native.Nat.{_≤_, _<_};
 ghost use lib.ListN.{length};

@@ -7,6 +7,7 @@ ghost use lib.ListN.{length};
 
 mod acts;
 mod answers;
+pub mod combined;
 mod epochs;
 mod events;
 mod layout;
@@ -18,7 +19,6 @@ pub mod reports;
 pub mod steps;
 mod steps_read;
 pub mod timed;
-pub mod turn;
 mod write;
 
 pub use acts::hear;

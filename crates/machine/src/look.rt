@@ -6,7 +6,7 @@ ghost use Rattle.node.specs.Figures.{isWaiting};
 ghost use Rattle.site.specs.Members.{nodeIndex, isLive, stateOf};
 ghost use Rattle.machine.specs.Layout.{store, upIn, phaseIn};
 ghost use Rattle.machine.specs.Written.{memberPut};
-ghost use Rattle.machine.specs.Loading.{noHeader, headerRead, memberRead, slotsRead, ownersTold};
+ghost use Rattle.machine.specs.Loading.{noHeader, headerRead, memberRead, slotsRead, nodeOwnersWritten};
 use crate::acts::no_node;
 use crate::layout::BYTES;
 use crate::layout::NODE_BYTES;
@@ -89,7 +89,7 @@ pub fn slots_held(words: &[u32], bytes: &[u8], j: u32) -> u8
 
 // The owners of its own schedule's slots, from the masks to a place of an output; of a number of none of the N nodes nothing is written.
 pub fn tell_owners(words: &[u32], bytes: &[u8], j: u32, out: &mut [u8], to: usize)
-    ensures { λ _. ⌜ now (out .exit) ≡ ownersTold (store (now (words .entry)) (now (bytes .entry))) j (now (out .entry)) to ⌝ }
+    ensures { λ _. ⌜ now (out .exit) ≡ nodeOwnersWritten (store (now (words .entry)) (now (bytes .entry))) j (now (out .entry)) to ⌝ }
 {
     if no_node(words, bytes, j) {
         return;

@@ -14,7 +14,7 @@ ghost use Rattle.machine.specs.steps.After.{areaWith};
 ghost use Rattle.machine.specs.timed.Timed.{givenTable};
 ghost use Rattle.machine.specs.timed.Stored.{storedLoad, timedLoadedStore, timedLoadedSite, givenStore, dayAnswer};
 ghost use Rattle.machine.specs.timed.Stored.{begunStore};
-ghost use Rattle.machine.specs.timed.Stored.{timedStore, timedSite, turnedBy, storeBy};
+ghost use Rattle.machine.specs.timed.Stored.{timedStore, timedSite, dayAnswerBy, storeBy};
 ghost use Rattle.machine.specs.timed.Inner.{rowGiven, demandGiven, dayBegun, listVerdict};
 use crate::Day;
 use crate::DayAnswer;
@@ -172,7 +172,7 @@ fn end(
     w: &[u32],
     ok: bool,
 ) -> DayAnswer
-    ensures { λ r. ⌜ r ≡ turnedBy ok (store (now (words .entry)) (now (bytes .entry))) day (now (area .entry)) End ⌝ }
+    ensures { λ r. ⌜ r ≡ dayAnswerBy ok (store (now (words .entry)) (now (bytes .entry))) day (now (area .entry)) End ⌝ }
     ensures { λ _. ⌜ now (words .exit)
         ≡ storeBy ok (store (now (words .entry)) (now (bytes .entry))) day (now (area .entry)) (windowsIn (now (w .entry))) End .words ⌝ }
     ensures { λ _. ⌜ now (bytes .exit)
@@ -208,7 +208,7 @@ pub fn step_tested(
     w: &[u32],
     ok: bool,
 ) -> DayAnswer
-    ensures { λ r. ⌜ r ≡ turnedBy ok (store (now (words .entry)) (now (bytes .entry))) day (now (area .entry)) e ⌝ }
+    ensures { λ r. ⌜ r ≡ dayAnswerBy ok (store (now (words .entry)) (now (bytes .entry))) day (now (area .entry)) e ⌝ }
     ensures { λ _. ⌜ now (words .exit)
         ≡ storeBy ok (store (now (words .entry)) (now (bytes .entry))) day (now (area .entry)) (windowsIn (now (w .entry))) e .words ⌝ }
     ensures { λ _. ⌜ now (bytes .exit)

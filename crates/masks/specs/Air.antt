@@ -16,8 +16,8 @@ unfoldable pub ownersTo : Masks → ℕ → List ℕ
 ownersTo m n = tab 80 (λ k. first (min n 32) (λ i. holds m i k))
 
 -- those of the masks at a place of some bytes, at a place of others; without room for either nothing changes
-abbrev pub told : List ℕ → ℕ → ℕ → List ℕ → ℕ → List ℕ
-told l at n out to = cond (hasRoom l at && leb (to + 80) (length out)) (written out to (ownersTo (masksIn l at) n)) out
+abbrev pub ownersWritten : List ℕ → ℕ → ℕ → List ℕ → ℕ → List ℕ
+ownersWritten l at n out to = cond (hasRoom l at && leb (to + 80) (length out)) (written out to (ownersTo (masksIn l at) n)) out
 
 -- the masks of owners at a place; without room nothing changes
 abbrev pub withOwners : List ℕ → ℕ → List ℕ → List ℕ

@@ -2,7 +2,7 @@
 ghost use mathlib.Core.Path.{_≡_};
 ghost use Prim.Native.Nat.{min, _+_, _≤_, _<_};
 ghost use lib.ListN.{length, getD, replicate};
-ghost use Rattle.masks.specs.Air.{ownersTo, told, withOwners};
+ghost use Rattle.masks.specs.Air.{ownersTo, ownersWritten, withOwners};
 ghost use Rattle.masks.specs.Bytes.{masksSize, masksIn, atHeld};
 ghost use Rattle.masks.specs.Inner.{indexOf, marked, granted};
 use crate::bytes::has_room;
@@ -44,7 +44,7 @@ fn tell_rows(s: &[u8], at: usize, top: usize, owners: &mut [u8])
 
 // The owners of the masks of n nodes, at a place of some bytes, to a place of others. Without room for masks or owners nothing changes.
 pub fn tell(s: &[u8], at: usize, n: u32, out: &mut [u8], to: usize)
-    ensures { λ _. ⌜ now (out .exit) ≡ told (now (s .entry)) at n (now (out .entry)) to ⌝ }
+    ensures { λ _. ⌜ now (out .exit) ≡ ownersWritten (now (s .entry)) at n (now (out .entry)) to ⌝ }
 {
     if !has_room(s, at) {
         return;

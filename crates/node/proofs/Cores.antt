@@ -20,7 +20,7 @@ use Rattle.node.specs.Close.{stayed, closedNode}
 use Rattle.node.specs.Distribution.{takenEpoch, takenNode}
 use Rattle.node.specs.End.{nextRound, waitsOn, nextEpoch, rejoined, expires, endedNode}
 use Rattle.node.specs.Grounds.{firstRule, ruleOf}
-use Rattle.node.specs.Core.{coreOf, nodeOf, bare, pair, dealtSchedule, movedBy, closeMoveBy, coreClosed, endMoveBy, coreTurned}
+use Rattle.node.specs.Core.{coreOf, nodeOf, bare, pair, dealtSchedule, movedBy, closeMoveBy, coreClosed, endMoveBy, coreRoundEnded}
 use Rattle.node.specs.Core.{coreWaited}
 use Rattle.node.specs.Core.{coreEnded, takeMoveBy, coreTaken}
 use Rattle.node.specs.Inner.{coreRequest, flagsAfter, verdictOf, countedRule}
@@ -163,8 +163,8 @@ close-moved n = go (due n) (determines n)
     go false false = refl
 
 -- an end by whether the epoch ends
-abbrev pub turnedBy : Core → Bool → Bool → Core
-turnedBy c last expired =
+abbrev pub roundEndedBy : Core → Bool → Bool → Core
+roundEndedBy c last expired =
     record {
       setup = c .setup;
       version = cond expired 0 (c .version);
@@ -179,7 +179,7 @@ turnedBy c last expired =
       phase = Negotiation;
     }
 
-pub turned-as : (c : Core) (t : Bool) → turnedBy c t (t && expires (bare c)) ≡ coreOf (cond t (nextEpoch (bare c)) (nextRound (bare c)))
+pub turned-as : (c : Core) (t : Bool) → roundEndedBy c t (t && expires (bare c)) ≡ coreOf (cond t (nextEpoch (bare c)) (nextRound (bare c)))
 unfolding nextEpoch nextRound begun
 turned-as c true = λ i. record {
   setup = c .setup;
@@ -229,7 +229,7 @@ epoch-moved n true = refl
 epoch-moved n false = refl
 
 pub end-moved : (n : Node) → movedBy n (coreEnded (coreOf n) .core) (coreEnded (coreOf n) .change) ≡ endedNode n
-unfolding coreTurned coreWaited endedNode nextEpoch nextRound begun waitsOn
+unfolding coreRoundEnded coreWaited endedNode nextEpoch nextRound begun waitsOn
 end-moved n = go (isWaiting (n .phase)) (isLast (n .setup .config) (n .epoch .place))
   where
     step : Bool → Bool → CoreStep

@@ -19,7 +19,7 @@ use Rattle.allotment.specs.Allotment.{free}
 use Rattle.allotment.specs.InPlace.{heldBytes, heldIn}
 use Rattle.allotment.specs.Model.{Schedule}
 use Rattle.allotment.proofs.Held.{length-held, free-held, next-held, held-alike}
-use Rattle.node.specs.Core.{pair, dealtSchedule, schedulesBy, bare, endMoveBy, coreTurned, coreWaited, coreEnded}
+use Rattle.node.specs.Core.{pair, dealtSchedule, schedulesBy, bare, endMoveBy, coreRoundEnded, coreWaited, coreEnded}
 use Rattle.node.specs.Figures.{isLast, isWaiting}
 use Rattle.node.specs.End.{expires}
 use Rattle.node.specs.InPlace.{bothSize, behind, movedThere, movedIn, keeps, droppedIn}
@@ -85,9 +85,9 @@ module _ (c : Core) (l : List ℕ) (at : ℕ) (h : at + bothSize ≤ length l) w
   end-drops false expired = by-test (λ (x : List ℕ). x ≡ l) (leb (at + bothSize) (length l)) l l (λ f. refl) (λ f. refl)
 
   pub ended-drops : (d : Core) → movedIn (coreEnded d .change) c l at ≡ droppedIn (coreEnded d .change) l at
-  unfolding coreTurned coreWaited
+  unfolding coreRoundEnded coreWaited
   ended-drops d = by-test (λ (o : CoreStep). movedIn (o .change) c l at ≡ droppedIn (o .change) l at) (isWaiting (d .phase))
-      (coreWaited d) (coreTurned d) (λ e. end-drops (isLast (d .setup .config) (d .place)) true)
+      (coreWaited d) (coreRoundEnded d) (λ e. end-drops (isLast (d .setup .config) (d .place)) true)
       (λ e. end-drops (isLast (d .setup .config) (d .place)) (expires (bare d)))
 
 -- as many bytes as masks have, written at either place

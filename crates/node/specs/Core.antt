@@ -96,8 +96,8 @@ abbrev pub endMoveBy : Bool → Bool → Move
 endMoveBy last expired = cond last (cond expired Free Drop) Keep
 
 -- the end of a node that doesn't wait, and of one that does
-unfoldable pub coreTurned : Core → CoreStep
-coreTurned c =
+unfoldable pub coreRoundEnded : Core → CoreStep
+coreRoundEnded c =
     record {
       core = coreOf (cond (isLast (c .setup .config) (c .place)) (nextEpoch (bare c)) (nextRound (bare c)));
       change = endMoveBy (isLast (c .setup .config) (c .place)) (expires (bare c));
@@ -111,7 +111,7 @@ coreWaited c =
     }
 
 abbrev pub coreEnded : Core → CoreStep
-coreEnded c = cond (isWaiting (c .phase)) (coreWaited c) (coreTurned c)
+coreEnded c = cond (isWaiting (c .phase)) (coreWaited c) (coreRoundEnded c)
 
 -- a take of version v: the sender's schedule is held, and then the move
 abbrev pub takeMoveBy : Bool → Move

@@ -4,7 +4,7 @@ ghost use mathlib.Core.Bool.{false, cond, _&&_};
 ghost use Prim.Native.Nat.{_+_};
 ghost use Rattle.node.specs.Figures.{isLast};
 ghost use Rattle.node.specs.End.{waitsOn, expires};
-ghost use Rattle.node.specs.Core.{bare, coreOf, endMoveBy, coreTurned, coreWaited, coreEnded};
+ghost use Rattle.node.specs.Core.{bare, coreOf, endMoveBy, coreRoundEnded, coreWaited, coreEnded};
 ghost use Rattle.node.specs.Inner.{flagsAfter};
 use crate::Core;
 use crate::CoreStep;
@@ -92,8 +92,8 @@ impl Core {
     }
 
     // Lines 43 to 55 of a node that doesn't wait: the next round, and in the epoch's last one the next epoch.
-    fn turned(self) -> CoreStep
-        ensures { λ r. ⌜ r ≡ coreTurned self ⌝ }
+    fn round_ended(self) -> CoreStep
+        ensures { λ r. ⌜ r ≡ coreRoundEnded self ⌝ }
     {
         let setup = self.setup;
         let old = self.counters;
@@ -150,6 +150,6 @@ impl Core {
         if is_waiting(phase) {
             return self.waited();
         }
-        self.turned()
+        self.round_ended()
     }
 }

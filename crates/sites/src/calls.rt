@@ -10,7 +10,7 @@ ghost use Rattle.machine.specs.timed.Stored.{storedLoadAnswer, timedLoadedStore
 ghost use Rattle.group.specs.Places.{topPlaces};
 ghost use Rattle.sites.specs.one.Calls.{showing, outNode};
 ghost use Rattle.sites.specs.many.Memory.{memory, lent, tableSize, storeAt};
-ghost use Rattle.sites.specs.many.Inner.{Sized, commonFull, loneIn, stepResultBy, storeBy, siteBy, placesBy, areaBy, reportBy};
+ghost use Rattle.sites.specs.many.Inner.{Sized, commonFull, loneIn, stepResultBy, lentStoreBy, siteBy, placesBy, areaBy, reportBy};
 ghost use Rattle.sites.specs.many.Inner.{memoryBy};
 ghost use Rattle.sites.specs.many.Inner.{loadedBy};
 use crate::Tallied;
@@ -119,14 +119,14 @@ pub(crate) fn event_at(
         ≡ reportBy (loneIn (memory (now (words .entry)) (now (bytes .entry)) (now (table .entry))) (now (area .entry)) i a)
         (commonFull (memory (now (words .entry)) (now (bytes .entry)) (now (table .entry))) e)
         (lent (windowsIn (now (w .entry))) t (now (out .entry))) e ⌝ }
-    ensures sized { λ _. ⌜ Sized (storeBy
+    ensures sized { λ _. ⌜ Sized (lentStoreBy
         (loneIn (memory (now (words .entry)) (now (bytes .entry)) (now (table .entry))) (now (area .entry)) i a)
         (commonFull (memory (now (words .entry)) (now (bytes .entry)) (now (table .entry))) e)
         (lent (windowsIn (now (w .entry))) t (now (out .entry))) e)
         × (length (placesBy (loneIn (memory (now (words .entry)) (now (bytes .entry)) (now (table .entry))) (now (area .entry)) i a)
         (commonFull (memory (now (words .entry)) (now (bytes .entry)) (now (table .entry))) e)
         (lent (windowsIn (now (w .entry))) t (now (out .entry))) e) ≡ topPlaces)
-        × (siteIn (storeBy (loneIn (memory (now (words .entry)) (now (bytes .entry)) (now (table .entry))) (now (area .entry)) i a)
+        × (siteIn (lentStoreBy (loneIn (memory (now (words .entry)) (now (bytes .entry)) (now (table .entry))) (now (area .entry)) i a)
         (commonFull (memory (now (words .entry)) (now (bytes .entry)) (now (table .entry))) e)
         (lent (windowsIn (now (w .entry))) t (now (out .entry))) e)
         ≡ siteBy (loneIn (memory (now (words .entry)) (now (bytes .entry)) (now (table .entry))) (now (area .entry)) i a)

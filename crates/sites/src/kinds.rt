@@ -1,12 +1,12 @@
 // An event as a group looks at it.
 ghost use mathlib.Core.Path.{_≡_};
 ghost use Rattle.group.specs.Calls.{isSend};
-ghost use Rattle.sites.specs.many.Inner.{partOf};
+ghost use Rattle.sites.specs.many.Inner.{eventPart};
 use crate::Part;
 use site::Event;
 
 pub(crate) fn taken_apart(e: Event) -> Part
-    ensures { λ r. ⌜ r ≡ partOf e ⌝ }
+    ensures { λ r. ⌜ r ≡ eventPart e ⌝ }
 {
     match e {
         Event::Send(j) => Part::Sends(j),

@@ -9,8 +9,8 @@ ghost use lib.Dec.{ltb};
 ghost use lib.ListN.{length};
 ghost use Rattle.node.specs.declared.Answer.the-variants.{OutOfRange, NoRoom};
 ghost use Rattle.site.specs.Answers.{areaSize};
-ghost use Rattle.machine.specs.turn.Kept.{firstRefusal};
-ghost use Rattle.machine.specs.turn.Stored.{reportTooShort};
+ghost use Rattle.machine.specs.combined.Kept.{firstRefusal};
+ghost use Rattle.machine.specs.combined.Stored.{reportTooShort};
 ghost use Rattle.windows.specs.Copies.{windowsIn, listOf};
 ghost use Rattle.script.specs.events.Events.{eventAt};
 ghost use Rattle.sites.specs.one.Calls.{configFrom};
@@ -19,7 +19,7 @@ ghost use Rattle.sites.specs.many.Memory.{memory, lent, loadedAnswer, gr
 ghost use Rattle.sites.specs.many.Calls.{beginAnswer, begunTable, groupLoadAnswer, afterLoad, groupLoaded, groupEventTallied};
 ghost use Rattle.sites.specs.many.Calls.{afterEvent};
 ghost use Rattle.sites.specs.many.Calls.{groupAreaAfter, reportAfter, groupAfter, rowsAnswer, afterRows, groupRows, tallyLoaded};
-ghost use Rattle.sites.specs.many.Calls.{rowsTold};
+ghost use Rattle.sites.specs.many.Calls.{rowsTallied};
 ghost use Rattle.sites.specs.many.Calls.{groupLineAnswer, groupLineTallied, afterLine, areaAfterLine, tallyAfterLine};
 ghost use Rattle.sites.specs.many.Calls.{reportAfterLine};
 ghost use Rattle.sites.specs.many.Calls.{groupAfterLine, groupNodeAnswer, nodeOut};
@@ -191,7 +191,7 @@ fn load_tallied(
     w: Windows,
     t: Tally,
 ) -> Tallied
-    ensures { λ r. ⌜ (r ≡ rowsTold (memory (now (words .entry)) (now (bytes .entry)) (now (table .entry))) a
+    ensures { λ r. ⌜ (r ≡ rowsTallied (memory (now (words .entry)) (now (bytes .entry)) (now (table .entry))) a
         (configFrom nodes slots rounds heard split) (now (rows .entry)) day (listOf w) t)
         × (now (words .exit) ≡ afterRows (memory (now (words .entry)) (now (bytes .entry)) (now (table .entry))) a
         (configFrom nodes slots rounds heard split) (now (rows .entry)) day (listOf w) .words)
@@ -283,7 +283,7 @@ fn no_event(words: &[u32], bytes: &[u8], table: &[u32], area: &[u8], out: &[u8],
     if !node::is_done(site_slot) {
         return node::code(site_slot);
     }
-    if (area.len() < SiteHeader::AREA) | machine::turn::report_too_short(out) {
+    if (area.len() < SiteHeader::AREA) | machine::combined::report_too_short(out) {
         return node::code(Answer::NoRoom);
     }
     node::code(Answer::OutOfRange)

@@ -92,7 +92,7 @@ pub(crate) fn no_event(words: &[u32], bytes: &[u8], area: &[u8], out: &[u8], t: 
         Malformed ⌝ }
 {
     let short = lacks(words, bytes);
-    if short | machine::turn::too_few(words, bytes, area, out) {
+    if short | machine::combined::too_few(words, bytes, area, out) {
         return Tallied {
             code: node::code(Answer::NoRoom),
             tally: t,
@@ -136,7 +136,7 @@ pub(crate) fn step(
         };
     }
     let day = day_at(words);
-    let r = machine::turn::step(words, bytes, area, day, e, w, t, out);
+    let r = machine::combined::step(words, bytes, area, day, e, w, t, out);
     let next = r.day;
     let tally = r.tally;
     put_day(words, next);

@@ -8,11 +8,11 @@ ghost use Rattle.site.specs.Counts.{packets};
 ghost use Rattle.site.specs.Answers.{areaSize};
 ghost use Rattle.machine.specs.Layout.{store, siteIn, wordsSize, bytesSize};
 ghost use Rattle.windows.specs.Copies.{windowsIn};
-ghost use Rattle.machine.specs.turn.Stored.{lentTooShort};
+ghost use Rattle.machine.specs.combined.Stored.{lentTooShort};
 ghost use Rattle.group.specs.Places.{topPlaces};
 ghost use Rattle.group.specs.Calls.{isSend};
 ghost use Rattle.sites.specs.many.Memory.{lent};
-ghost use Rattle.sites.specs.many.Inner.{isHear, oneSite, ownBy, stepResultBy, storeBy, siteBy, placesBy, areaBy, reportBy};
+ghost use Rattle.sites.specs.many.Inner.{isHear, oneSite, ownBy, stepResultBy, lentStoreBy, siteBy, placesBy, areaBy, reportBy};
 ghost use Rattle.sites.specs.many.Inner.{listAnswer};
 ghost use Rattle.sites.specs.many.Inner.{sendNumber, sendStore, sendPlaces, sendArea, groupHearAnswer, hearStore, heardBytes};
 use crate::Part;
@@ -68,7 +68,7 @@ fn send(
         ≡ sendArea (store (now (words .entry)) (now (bytes .entry))) o full j (now (list .entry)) (now (area .entry)) ⌝ }
 {
     let plain = machine::steps::answer_to(words, bytes, area, Event::Send(j));
-    let answer = machine::turn::first_of(plain, o);
+    let answer = machine::combined::first_of(plain, o);
     if !node::is_done(answer) {
         return node::code(answer);
     }
@@ -119,7 +119,7 @@ fn hear(
     let part = heard_bytes(words, bytes, list, area, a, p);
     if !node::is_done(o) {
         let plain = machine::steps::answer_from(words, bytes, &part, 0, j, p);
-        return node::code(machine::turn::first_of(plain, o));
+        return node::code(machine::combined::first_of(plain, o));
     }
     let answer = machine::steps::hear_from(words, bytes, &part, 0, j, p);
     node::code(answer)
@@ -143,10 +143,10 @@ fn other(
         (oneSite (store (now (words .entry)) (now (bytes .entry))) day a (now (list .entry)) (now (area .entry))) false
         (lent (windowsIn (now (w .entry))) t (now (out .entry))) e ⌝ }
     ensures { λ _. ⌜ now (words .exit)
-        ≡ storeBy (oneSite (store (now (words .entry)) (now (bytes .entry))) day a (now (list .entry)) (now (area .entry))) false
+        ≡ lentStoreBy (oneSite (store (now (words .entry)) (now (bytes .entry))) day a (now (list .entry)) (now (area .entry))) false
         (lent (windowsIn (now (w .entry))) t (now (out .entry))) e .words ⌝ }
     ensures { λ _. ⌜ now (bytes .exit)
-        ≡ storeBy (oneSite (store (now (words .entry)) (now (bytes .entry))) day a (now (list .entry)) (now (area .entry))) false
+        ≡ lentStoreBy (oneSite (store (now (words .entry)) (now (bytes .entry))) day a (now (list .entry)) (now (area .entry))) false
         (lent (windowsIn (now (w .entry))) t (now (out .entry))) e .bytes ⌝ }
     ensures { λ _. ⌜ now (list .exit)
         ≡ placesBy (oneSite (store (now (words .entry)) (now (bytes .entry))) day a (now (list .entry)) (now (area .entry))) false
@@ -161,7 +161,7 @@ fn other(
         ≡ siteBy (oneSite (store (now (words .entry)) (now (bytes .entry))) day a (now (list .entry)) (now (area .entry))) false
         (lent (windowsIn (now (w .entry))) t (now (out .entry))) e ⌝ }
 {
-    let r = machine::turn::step(words, bytes, area, day, e, w, t, out);
+    let r = machine::combined::step(words, bytes, area, day, e, w, t, out);
     let gone = site::is_close(e) & (r.code == 0);
     places::free_where(list, a, gone);
     r
@@ -186,10 +186,10 @@ pub(crate) fn turn(
         (oneSite (store (now (words .entry)) (now (bytes .entry))) day a (now (list .entry)) (now (area .entry))) full
         (lent (windowsIn (now (w .entry))) t (now (out .entry))) e ⌝ }
     ensures { λ _. ⌜ now (words .exit)
-        ≡ storeBy (oneSite (store (now (words .entry)) (now (bytes .entry))) day a (now (list .entry)) (now (area .entry))) full
+        ≡ lentStoreBy (oneSite (store (now (words .entry)) (now (bytes .entry))) day a (now (list .entry)) (now (area .entry))) full
         (lent (windowsIn (now (w .entry))) t (now (out .entry))) e .words ⌝ }
     ensures { λ _. ⌜ now (bytes .exit)
-        ≡ storeBy (oneSite (store (now (words .entry)) (now (bytes .entry))) day a (now (list .entry)) (now (area .entry))) full
+        ≡ lentStoreBy (oneSite (store (now (words .entry)) (now (bytes .entry))) day a (now (list .entry)) (now (area .entry))) full
         (lent (windowsIn (now (w .entry))) t (now (out .entry))) e .bytes ⌝ }
     ensures { λ _. ⌜ now (list .exit)
         ≡ placesBy (oneSite (store (now (words .entry)) (now (bytes .entry))) day a (now (list .entry)) (now (area .entry))) full
@@ -204,7 +204,7 @@ pub(crate) fn turn(
         ≡ siteBy (oneSite (store (now (words .entry)) (now (bytes .entry))) day a (now (list .entry)) (now (area .entry))) full
         (lent (windowsIn (now (w .entry))) t (now (out .entry))) e ⌝ }
 {
-    if machine::turn::too_few(words, bytes, area, out) {
+    if machine::combined::too_few(words, bytes, area, out) {
         let code = node::code(Answer::NoRoom);
         return StepResult {
             code,

@@ -33,7 +33,7 @@ use Rattle.script.specs.load.Opening.{got, opening, namesLine, settingsLine, ta
 use Rattle.script.specs.events.Events.{numberFrom, fieldsOf}
 use Rattle.windows.specs.Windows.{listOk, hasWindows, demandAt, dueAt}
 use Rattle.machine.specs.timed.Timed.{givenTable, timedLoadAnswer, loadedTimed, timedAnswer, nextTimed, timedAfter}
-use Rattle.desk.specs.listings.Output.{loadedState, dayFits, unfit, splitTold}
+use Rattle.desk.specs.listings.Output.{loadedState, dayFits, unfit, splitShown}
 use Rattle.desk.specs.listings.Why.{reasonLines, refusalPart, headPart, whyBody, whyOf}
 use Rattle.desk.specs.reasons.Reasons.{reason, reasonOf}
 use Rattle.wants.specs.Example.{area, exampleWindows}
@@ -74,7 +74,7 @@ printed : (j : ℕ) → whyOf j 2 exampleWindows pairScript area ≡ headPart j
 unfolding whyOf
 printed j =
     skip (unfit pairScript area) (refusalPart j 0 0 NoRoom) _ _ fitting
-    (ap (whyBody j 2 exampleWindows (splitTold pairScript area) area) opened-so ∙ hit (dayFits 2 exampleWindows pairOpening) _ _ day-so)
+    (ap (whyBody j 2 exampleWindows (splitShown pairScript area) area) opened-so ∙ hit (dayFits 2 exampleWindows pairOpening) _ _ day-so)
 
 pub real-script : RealScript
 real-script =

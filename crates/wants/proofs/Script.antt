@@ -97,7 +97,7 @@ reasons D E ws vs script area o ls opens ok fine j =
     let f = o .config in
     let t = o .table in
     let d = opening-loads (split 10 script) o ls opens in
-    let k = desk.splitTold script area in
+    let k = desk.splitShown script area in
     let q : whyBody j D ws k area (got o ls) ≡ whyBody j E vs k area (got o ls) =
     hit _ _ _ ok
     ∙ ap (λ (l : List ℕ). headPart j ++ l)

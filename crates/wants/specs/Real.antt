@@ -3,7 +3,7 @@
 -- Assumes nothing.
 use mathlib.Core.Path.{_≡_}
 use mathlib.Core.Bool.{true, false}
-use mathlib.Core.List.{List, [], _∷_}
+use mathlib.Core.List.{List, [], _∷_, _++_}
 use Prim.Native.Nat.{ℕ}
 use lib.ListN.{replicate}
 use Rattle.text.specs.Ascii.{ascii}
@@ -17,7 +17,8 @@ use Rattle.wants.specs.Example.{area, pair, exampleWindows}
 
 abbrev pub pairScript : List ℕ
 pairScript =
-    ascii "nodes slots rounds heard split\n2 2 1 1 0\nnode version flags want\n1 1 3 1\n2 1 3 1\nevent node with\nsend 2 0\nhear 1 1\nclose 0 0\n"
+    ascii "nodes slots rounds heard split\n2 2 1 1 0\nnode version flags want\n1 1 3 1\n2 1 3 1\nevent node with\n"
+    ++ ascii "send 2 0\nhear 1 1\nclose 0 0\n"
 
 -- the settings and the table
 abbrev pub pairOpening : Opening

@@ -21,7 +21,7 @@ use Rattle.script.specs.events.Events.{eventOf}
 use Rattle.script.specs.load.Opening.{Reading, Opening, opening, got}
 use Rattle.desk.specs.listing.Rows.{firstHead, reportLine, refusalLine, rowsText}
 use Rattle.desk.specs.listings.Output.{secondHead, lineAnswer, lineAfter, lastReport, refusedLines, loadedState, finished, ranText, unfit}
-use Rattle.desk.specs.listings.Output.{splitTold, body, outputOf}
+use Rattle.desk.specs.listings.Output.{splitShown, body, outputOf}
 use Rattle.why.specs.Refused.{one, byteCount, refusedIn}
 use Rattle.why.specs.Lines.{refusal, lastRefusal, refusals, LinesCounted}
 
@@ -133,7 +133,7 @@ read-out : (script area : List ℕ) (r : Reading Opening) → unfit script area 
     → refusedIn (outputOf 1 [] script area) ≡ ends (body 1 [] area r)
 unfolding outputOf
 read-out script area r u e =
-    under-head (splitTold script area) (cond (unfit script area) (refusalLine 0 NoRoom) (body 1 [] area (opening (split 10 script))))
+    under-head (splitShown script area) (cond (unfit script area) (refusalLine 0 NoRoom) (body 1 [] area (opening (split 10 script))))
     ∙ ap (λ (t : Bool). ends (cond t (refusalLine 0 NoRoom) (body 1 [] area (opening (split 10 script))))) u
     ∙ ap (λ (q : Reading Opening). ends (body 1 [] area q)) e
 

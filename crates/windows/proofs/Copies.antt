@@ -14,7 +14,7 @@ use Rattle.words.proofs.Tests.{hit, skip}
 use Rattle.lists.specs.All.{allBelow, tab}
 use Rattle.lists.proofs.Laws.{length-tab, getD-tab}
 use Rattle.windows.specs.Windows.{noWindow, windowAt}
-use Rattle.windows.specs.Copies.{places, windowIn, windowCount, windowsIn, wordsWith, wordsFrom, wordsOf, copyOf, windowWords}
+use Rattle.windows.specs.Copies.{places, windowIn, windowCount, windowsIn, wordsWith, wordsFrom, windowsOf, copyOf, windowWords}
 use Rattle.windows.specs.Copies.{listOf}
 use Rattle.windows.specs.declared.Window.{Window}
 use Rattle.windows.specs.declared.Windows as D
@@ -174,38 +174,39 @@ length-listed a l m = count-in (windowWords a)
 
 -- words of which i windows are read, with those that follow: the first 65 of all
 copy-from : (ws : List Window) (l : List ℕ) (i : ℕ) → length l ≡ 260
-    → listOf (wordsOf (i + length ws) (wordsFrom l i ws)) ≡ take places (listOf (wordsOf i l) ++ ws)
+    → listOf (windowsOf (i + length ws) (wordsFrom l i ws)) ≡ take places (listOf (windowsOf i l) ++ ws)
 copy-from [] l i h =
-    let a = wordsOf i l in
+    let a = windowsOf i l in
     let n : i + 0 ≡ i = omega arith in
-    ap (λ (m : ℕ). listOf (wordsOf m l)) n ∙ sym (ap (take places) (append-nil (listOf a))
+    ap (λ (m : ℕ). listOf (windowsOf m l)) n ∙ sym (ap (take places) (append-nil (listOf a))
     ∙ take-all places (listOf a) (omega (arith, length-listed a h (omega arith))))
 copy-from (w ∷ ws) l i h =
     let n : i + suc (length ws) ≡ (i + 1) + length ws = omega arith in
-    ap (λ (m : ℕ). listOf (wordsOf m (wordsFrom (wordsWith l i w) (i + 1) ws))) n ∙ go (ltb i places) refl (copy-from ws)
+    ap (λ (m : ℕ). listOf (windowsOf m (wordsFrom (wordsWith l i w) (i + 1) ws))) n ∙ go (ltb i places) refl (copy-from ws)
   where
     go : (t : Bool) → ltb i places ≡ t
         → ((k : List ℕ) (m : ℕ) → length k ≡ 260
-        → listOf (wordsOf (m + length ws) (wordsFrom k m ws)) ≡ take places (listOf (wordsOf m k) ++ ws))
-        → listOf (wordsOf ((i + 1) + length ws) (wordsFrom (wordsWith l i w) (i + 1) ws)) ≡ take places (listOf (wordsOf i l) ++ (w ∷ ws))
+        → listOf (windowsOf (m + length ws) (wordsFrom k m ws)) ≡ take places (listOf (windowsOf m k) ++ ws))
+        → listOf (windowsOf ((i + 1) + length ws) (wordsFrom (wordsWith l i w) (i + 1) ws))
+        ≡ take places (listOf (windowsOf i l) ++ (w ∷ ws))
     go true e more =
         let k : i < places = ltb-true _ _ e in
         let m₁ : min (i + 1) places ≡ i + 1 = omega (arith, k) in
         let m₀ : i ≡ min i places = omega (arith, k) in
-        let r : listOf (wordsOf (i + 1) (put l i w)) ≡ listOf (wordsOf i l) ++ (w ∷ []) =
+        let r : listOf (windowsOf (i + 1) (put l i w)) ≡ listOf (windowsOf i l) ++ (w ∷ []) =
         ap (λ (m : ℕ). windowsIn (take (4 * m) (put l i w))) m₁
         ∙ grown l i w k (omega (arith, h))
         ∙ ap (λ (m : ℕ). windowsIn (take (4 * m) l) ++ (w ∷ [])) m₀ in
-        ap (λ (x : List ℕ). listOf (wordsOf ((i + 1) + length ws) (wordsFrom x (i + 1) ws))) (hit _ (put l i w) l e)
+        ap (λ (x : List ℕ). listOf (windowsOf ((i + 1) + length ws) (wordsFrom x (i + 1) ws))) (hit _ (put l i w) l e)
         ∙ more (put l i w) (i + 1) (length-put l i w ∙ h)
         ∙ ap (λ (x : List Window). take places (x ++ ws)) r
-        ∙ ap (take places) (append-snoc (listOf (wordsOf i l)) w ws)
+        ∙ ap (take places) (append-snoc (listOf (windowsOf i l)) w ws)
     go false e more =
         let k : places ≤ i = ltb-false _ _ e in
-        let a = wordsOf i l in
+        let a = windowsOf i l in
         let m : min (i + 1) places ≡ min i places = omega (arith, k) in
         let n : length (listOf a) ≡ places = omega (arith, length-listed a h (omega arith), k) in
-        ap (λ (x : List ℕ). listOf (wordsOf ((i + 1) + length ws) (wordsFrom x (i + 1) ws))) (skip _ _ l l e refl)
+        ap (λ (x : List ℕ). listOf (windowsOf ((i + 1) + length ws) (wordsFrom x (i + 1) ws))) (skip _ _ l l e refl)
         ∙ more l (i + 1) h
         ∙ ap (λ (x : ℕ). take places (windowsIn (take (4 * x) l) ++ ws)) m
         ∙ take-at (listOf a) ws places n
@@ -215,7 +216,7 @@ copy-from (w ∷ ws) l i h =
 pub copy-is : (ws : List Window) → listOf (copyOf ws) ≡ take places ws
 copy-is ws =
     let n : length ws ≡ 0 + length ws = omega arith in
-    ap (λ (m : ℕ). listOf (wordsOf m (wordsFrom (replicate 260 0) 0 ws))) n
+    ap (λ (m : ℕ). listOf (windowsOf m (wordsFrom (replicate 260 0) 0 ws))) n
     ∙ copy-from ws (replicate 260 0) 0 (length-replicate {A = ℕ} 260 0)
     ∙ ap (λ (l : List Window). take places (l ++ ws)) no-words
 

@@ -14,7 +14,7 @@ use Rattle.words.proofs.Tests.{same-or-not}
 use Rattle.lists.specs.All.{iter, tab, allBelow}
 use Rattle.lists.proofs.Laws.{iter-none, iter-more, all-none, all-more, length-tab, getD-tab, getD-zeros}
 use Rattle.windows.specs.Windows.{windowAt, holdsAt, isDue, hasWindows, demandAt, dueAt}
-use Rattle.windows.specs.Inner.{entryOf, entryDue}
+use Rattle.windows.specs.Inner.{demandEntry, entryDue}
 use Rattle.windows.specs.declared.Window.{Window}
 
 -- a list by its rule, with one element set
@@ -47,7 +47,7 @@ module _ (j : ℕ) (low : 1 ≤ j) (high : j < 33) where
   no-entry = ne-eqb 0 j (λ e. absurd (omega (arith, e, low)))
 
   -- the entry of a node up to 32 is that of its own number alone
-  entry-is : (m : ℕ) → eqb (entryOf m) j ≡ eqb m j
+  entry-is : (m : ℕ) → eqb (demandEntry m) j ≡ eqb m j
   entry-is m = go (leb m 32) refl
     where
       go : (t : Bool) → leb m 32 ≡ t → eqb (cond t m 0) j ≡ eqb m j
@@ -57,7 +57,7 @@ module _ (j : ℕ) (low : 1 ≤ j) (high : j < 33) where
   due-is : (e : ℕ) (w : Window) → eqb (entryDue e w) j ≡ isDue j e w
   due-is e w = go (holdsAt w e)
     where
-      go : (t : Bool) → eqb (cond t (entryOf (w .node)) 0) j ≡ (eqb (w .node) j && t)
+      go : (t : Bool) → eqb (cond t (demandEntry (w .node)) 0) j ≡ (eqb (w .node) j && t)
       go true = entry-is (w .node) ∙ stays (eqb (w .node) j)
       go false = no-entry ∙ sym (and-false (eqb (w .node) j))
 
@@ -80,7 +80,8 @@ marked x false = stays (eqb x 0)
 
 -- one window more
 pub told-turn : {ws : List Window} {e n : ℕ} {own due : List ℕ} {w : Window} {r k : ℕ} → Told ws e n own due → w ≡ windowAt ws n
-    → r ≡ entryOf (w .node) → r < length own → k ≡ entryDue e w → k < length due → Told ws e (n + 1) (set own r 1) (set due k (w .demand))
+    → r ≡ demandEntry (w .node) → r < length own → k ≡ entryDue e w → k < length due
+    → Told ws e (n + 1) (set own r 1) (set due k (w .demand))
 told-turn {ws} {e} {n} {own} {due} {w} {r} {k} t q a f b g = record {
   mark = λ j x y.
       ap (λ (z : ℕ). eqb z 0) (read-set own r 1 j f) ∙ marked (getD own j 0) (eqb r j)

@@ -14,7 +14,7 @@ use Rattle.lists.specs.All.{iter, allBelow}
 use Rattle.lists.proofs.Laws.{all-none, iter-none}
 use Rattle.windows.specs.Windows.{topWindows, windowAt, dayOk, windowOk, overlap, entryOk, listOk, hasWindows, isDue, demandAt, dueAt}
 use Rattle.windows.specs.Windows.{lookedOf}
-use Rattle.windows.specs.Inner.{begunOf, meets, passes, turnOf, toldOf}
+use Rattle.windows.specs.Inner.{begunOf, meets, passes, turnOf, outcomeOf}
 use Rattle.windows.specs.declared.Window.{Window}
 use Rattle.windows.specs.declared.Looked.{Looked}
 use Rattle.windows.specs.declared.Seen.{Seen}
@@ -131,7 +131,7 @@ begun-short N D ws j e l =
 
 -- what it tells at the end
 pub pass-told : (N D : ℕ) (ws : List Window) (j e d : ℕ) (s : Seen) → Pass N D ws j e s → length ws ≤ topWindows → s .n ≤ s .i
-    → toldOf s d ≡ lookedOf N D ws j e d
+    → outcomeOf s d ≡ lookedOf N D ws j e d
 unfolding listOk hasWindows demandAt dueAt allBelow
 pass-told N D ws j e d s p l m =
     let n : s .i ≡ length ws = omega (arith, p .count, p .upto, m) in
@@ -158,16 +158,17 @@ pass-told N D ws j e d s p l m =
     and-cond false b x y = refl
 
 -- a list that is too long is not looked at, and is refused
-pub long-told : (N D : ℕ) (ws : List Window) (j e d : ℕ) → topWindows < length ws → toldOf (begunOf (length ws) D) d ≡ lookedOf N D ws j e d
+pub long-told : (N D : ℕ) (ws : List Window) (j e d : ℕ) → topWindows < length ws
+    → outcomeOf (begunOf (length ws) D) d ≡ lookedOf N D ws j e d
 long-told N D ws j e d l =
     let b = skip _ _ _ _ (is-false (leb (length ws) topWindows) (λ h. absurd (omega (arith, l, leb-true (length ws) topWindows h)))) refl in
     let r = too-many N D ws l in
-    ap (λ (s : Seen). toldOf s d) b ∙ (λ i. record { ok = sym r i; demand = sym (skip _ (dueAt ws j e d) d d r refl) i })
+    ap (λ (s : Seen). outcomeOf s d) b ∙ (λ i. record { ok = sym r i; demand = sym (skip _ (dueAt ws j e d) d d r refl) i })
 
 -- where a pass over any list stands
 pub record Going (N D : ℕ) (ws : List Window) (j e d : ℕ) (s : Seen) : Type 0 where
   pub more : s .i < s .n → Pass N D ws j e s × (length ws ≤ topWindows)
-  pub over : s .n ≤ s .i → toldOf s d ≡ lookedOf N D ws j e d
+  pub over : s .n ≤ s .i → outcomeOf s d ≡ lookedOf N D ws j e d
 
 pub going-begun : (N D : ℕ) (ws : List Window) (j e d : ℕ) → Going N D ws j e d (begunOf (length ws) D)
 going-begun N D ws j e d = go (ltb topWindows (length ws)) refl

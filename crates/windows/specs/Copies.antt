@@ -43,12 +43,12 @@ wordsFrom l i [] = l
 wordsFrom l i (w ∷ ws) = wordsFrom (wordsWith l i w) (i + 1) ws
 
 -- the words l of n windows: those behind the last place are not counted
-abbrev pub wordsOf : ℕ → List ℕ → D.Windows
-wordsOf n l = record { count = min n places; list = l }
+abbrev pub windowsOf : ℕ → List ℕ → D.Windows
+windowsOf n l = record { count = min n places; list = l }
 
 -- the words of a lent list
 abbrev pub copyOf : List Window → D.Windows
-copyOf ws = wordsOf (length ws) (wordsFrom (replicate 260 0) 0 ws)
+copyOf ws = windowsOf (length ws) (wordsFrom (replicate 260 0) 0 ws)
 
 -- the words in use, and the list that they stand for
 abbrev pub windowWords : D.Windows → List ℕ

@@ -22,12 +22,12 @@ abbrev pub orderedAt : ℕ → ℕ → (ℕ → Window) → ℕ → Bool
 orderedAt N D f i = windowOk N D (f i) && follows (lastOf f i) (f i)
 
 -- where a node's number stands in a list of the numbers 0 to 32
-abbrev pub entryOf : ℕ → ℕ
-entryOf j = cond (leb j 32) j 0
+abbrev pub demandEntry : ℕ → ℕ
+demandEntry j = cond (leb j 32) j 0
 
 -- that of a window's node where the window holds in epoch e, and otherwise 0
 abbrev pub entryDue : ℕ → Window → ℕ
-entryDue e w = cond (holdsAt w e) (entryOf (w .node)) 0
+entryDue e w = cond (holdsAt w e) (demandEntry (w .node)) 0
 
 -- before the first of so many windows; of more than 64 none is looked at
 abbrev pub begunOf : ℕ → ℕ → Seen
@@ -53,5 +53,5 @@ abbrev pub turnOf : ℕ → ℕ → ℕ → ℕ → Seen → Window → Window �
 turnOf N D j e s v w = cond (ltb (s .k) (s .i)) (meets s v w) (cond (ltb (s .i) (s .n)) (passes N D j e s w) s)
 
 -- what a pass tells at its end
-abbrev pub toldOf : Seen → ℕ → Looked
-toldOf s d = record { ok = s .ok; demand = cond (s .ok && not (s .none)) (s .due) d }
+abbrev pub outcomeOf : Seen → ℕ → Looked
+outcomeOf s d = record { ok = s .ok; demand = cond (s .ok && not (s .none)) (s .due) d }

@@ -6,8 +6,8 @@ ghost use lib.ListN.{length, replicate};
 ghost use Rattle.lists.specs.All.{allBelow};
 ghost use mathlib.Core.Bool.{not, cond};
 ghost use Rattle.windows.specs.Windows.{dayOk, windowOk, isDue, overlap, entryOk, listOk, dueAll, lookedOf};
-ghost use Rattle.windows.specs.Inner.{follows, orderedAt, entryOf, entryDue, begunOf, turnOf, toldOf};
-ghost use Rattle.windows.specs.Copies.{windowIn, windowCount, windowsIn, wordsWith, wordsOf, copyOf, windowWords};
+ghost use Rattle.windows.specs.Inner.{follows, orderedAt, demandEntry, entryDue, begunOf, turnOf, outcomeOf};
+ghost use Rattle.windows.specs.Copies.{windowIn, windowCount, windowsIn, wordsWith, windowsOf, copyOf, windowWords};
 
 // What a node wants from an epoch of the day up to the one before `end`. The fields lie as C has them.
 #[repr(C)]
@@ -70,7 +70,7 @@ fn put_window(l: &mut [u32], i: usize, node: u32, first: u32, end: u32, demand: 
 impl Windows {
     // The words of so many windows; those behind the last place are not counted.
     fn of(windows: usize, list: [u32; 260]) -> Windows
-        ensures { λ r. ⌜ r ≡ wordsOf windows list ⌝ }
+        ensures { λ r. ⌜ r ≡ windowsOf windows list ⌝ }
     {
         if windows < 65 {
             return Windows {
@@ -202,7 +202,7 @@ pub fn list_ok(l: &[u32], nodes: u32, day: u32) -> bool
 
 // Where a node's number stands in a list of the numbers 0 to 32; that of none of 32 nodes at 0, which stands for no node.
 fn entry_of(node: u32) -> usize
-    ensures { λ r. ⌜ r ≡ entryOf node ⌝ }
+    ensures { λ r. ⌜ r ≡ demandEntry node ⌝ }
     ensures { λ r. ⌜ r < 33 ⌝ }
 {
     if node <= 32 {
@@ -352,8 +352,8 @@ fn turn(s: Seen, v: Window, w: Window, nodes: u32, day: u32, node: u32, epoch: u
 }
 
 // What a pass tells at its end.
-fn told(s: Seen, demand: u32) -> Looked
-    ensures { λ r. ⌜ r ≡ toldOf s demand ⌝ }
+fn outcome(s: Seen, demand: u32) -> Looked
+    ensures { λ r. ⌜ r ≡ outcomeOf s demand ⌝ }
 {
     if s.ok & !s.none {
         return Looked {
@@ -374,5 +374,5 @@ pub fn look(ws: &[Window], nodes: u32, day: u32, node: u32, epoch: u32, demand: 
         let w = ws[s.i];
         s = turn(s, v, w, nodes, day, node, epoch);
     }
-    told(s, demand)
+    outcome(s, demand)
 }

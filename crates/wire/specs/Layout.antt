@@ -38,8 +38,8 @@ unfoldable pub scheduleIn : List ℕ → Versioned
 scheduleIn l = record { version = word32 l 0; schedule = scheduleOf (window 80 l 4) }
 
 -- a version and the owners of the masks of n nodes at a place of some bytes, at the start of an output; without room nothing changes
-abbrev pub scheduleTold : ℕ → List ℕ → ℕ → ℕ → List ℕ → List ℕ
-scheduleTold version l at n out =
+abbrev pub scheduleWritten : ℕ → List ℕ → ℕ → ℕ → List ℕ → List ℕ
+scheduleWritten version l at n out =
     cond (hasRoom l at && leb scheduleSize (length out))
     (written out 0 (scheduleBytes (record { version = version; schedule = scheduleOf (ownersTo (masksIn l at) n) })))
     out

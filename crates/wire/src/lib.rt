@@ -5,7 +5,7 @@ ghost use Prim.Native.Nat.{_*_};
 ghost use lib.Dec.{eqb, leb};
 ghost use lib.ListN.{length};
 ghost use Rattle.lists.specs.Bytes.{bytes32, window, written, Tried};
-ghost use Rattle.wire.specs.Layout.{packetSize, scheduleSize, packetBytes, packetIn, scheduleIn, scheduleTold};
+ghost use Rattle.wire.specs.Layout.{packetSize, scheduleSize, packetBytes, packetIn, scheduleIn, scheduleWritten};
 ghost use Rattle.wire.specs.Reads.{readAnswer, packetOk, packetRead, versionedOk, scheduleAnswer, partOf, placed, hasPart};
 ghost use Rattle.wire.specs.Phases.{phaseByte, phaseOf};
 use node::Answer;
@@ -195,7 +195,7 @@ pub fn packet_of(area: &[u8], index: u32) -> Packet
 // A version, and the owners of the masks of n nodes that stand at a place of some bytes, at the start of an output. Without room for the 84
 // bytes or for masks the output stays as it was.
 pub fn write_schedule(out: &mut [u8], version: u32, s: &[u8], at: usize, n: u32)
-    ensures { λ _. ⌜ now (out .exit) ≡ scheduleTold version (now (s .entry)) at n (now (out .entry)) ⌝ }
+    ensures { λ _. ⌜ now (out .exit) ≡ scheduleWritten version (now (s .entry)) at n (now (out .entry)) ⌝ }
 {
     if !masks::has_room(s, at) {
         return;

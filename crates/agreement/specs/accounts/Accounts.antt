@@ -141,7 +141,7 @@ pub record LentRuns (f : Config) (t : Table) (area : List ℕ) (cs : List LentCa
   pub demand3 : f .split ≡ 0 → Demand3 f t area (heeded cs)
   pub tally : (w : RunState) (c : LentCall) → isSpoilt c ≡ true → tallyAfter (w .site) (w .area) (c .tally) (c .event) ≡ c .tally
 
--- the statement: proved in proofs/Theorem.antt
+-- the statement: proved in proofs/accounts/Theorem.antt
 pub record Accounts : Type 0 where
   pub meets : (s : Site) → SumsMeet s
   pub accounted : (f : Config) (t : Table) → loadAnswer f t ≡ Done → (area : List ℕ) (es : List Event) → Accounted f t area es

@@ -80,7 +80,7 @@ pub record Plain (f : Config) (t : Table) (D : ℕ) (ws : List Window) (area : L
   pub site : finalBy f t D ws area cs ≡ final f (givenTable ws t) area (eventsOfAll (beginBy f t D ws area) cs)
   pub log : determinationsBy f t D ws area cs ≡ determinations f (givenTable ws t) area (eventsOfAll (beginBy f t D ws area) cs)
 
--- the statement: proved in proofs/Theorem.antt
+-- the statement: proved in proofs/daily/Theorem.antt
 pub record Daily : Type 0 where
   -- an end that begins an epoch is its wants and then the plain end
   pub ended-by-wants : (s : Site) (area : List ℕ) (D e : ℕ) (ws : List Window) → length (s .members) ≡ 32 → areaSize ≤ length area

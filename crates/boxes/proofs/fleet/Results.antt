@@ -35,7 +35,7 @@ use Rattle.host.specs.Report.{reportSize, report}
 use Rattle.host.specs.Calls.{andThen, outSend, hearingOf, takingOf, endingOf, readingOf, outRead, slotsSize, ownSlots, slotsAnswer}
 use Rattle.host.specs.Calls.{outSlots}
 use Rattle.host.proofs.Nodes as host
-use Rattle.host.proofs.Slots.{read-done, words-apart, slots-told}
+use Rattle.host.proofs.Slots.{read-done, words-apart, slots-shown}
 use Rattle.site.specs.Counts.{packets}
 use Rattle.site.specs.Members.{memberAt, isLive}
 use Rattle.node.specs.declared.Config.{Config}
@@ -192,16 +192,16 @@ module _ {f : Config} {past : Past} {s : Site} {area : List ℕ} {air : List (Li
         let r = read-of (box-up v) in
         record {
           answer = d;
-          slots = λ k. slots-told .told a (zeros slotsSize) (zeros reportSize) d r k
+          slots = λ k. slots-shown .own a (zeros slotsSize) (zeros reportSize) d r k
               ∙ ap (eqb (slotIn (reading (boxes j)) k)) (number-is v);
-          count = slots-told .counted a (zeros slotsSize) (zeros reportSize) d r
+          count = slots-shown .counted a (zeros slotsSize) (zeros reportSize) d r
               ∙ ap (λ (y : ℕ). howMany 80 (λ k. eqb (slotIn (reading (boxes j)) k) y)) (number-is v);
         }
 
     only-of : boxes j .up ≡ true → slotsAnswer (boxes j .area) (zeros slotsSize) ≡ Done → (live (boxes j) ≡ true) × (s .negotiates ≡ true)
     unfolding live
     only-of u d =
-        let p : boxPhase (reading (boxes j)) ≡ 0 = slots-told .phase (boxes j .area) (zeros slotsSize) (zeros reportSize) d (read-of u) in
+        let p : boxPhase (reading (boxes j)) ≡ 0 = slots-shown .phase (boxes j .area) (zeros slotsSize) (zeros reportSize) d (read-of u) in
         let v : live (boxes j) ≡ true = ap₂ (λ (t : Bool) (y : ℕ). t && not (eqb y 3)) u p in
         (v, sym (phase-of v) ∙ ap (λ (y : ℕ). eqb y 0) p)
 

@@ -19,7 +19,7 @@ use Rattle.area.specs.Area.{nodeSize, encoded, valid}
 use Rattle.host.specs.Report.{reportSize}
 use Rattle.host.specs.Calls.{beginning, outSend, hearingOf, groundSize, closingOf, takingOf, endingOf, outRead, slotsSize, slotsAnswer}
 use Rattle.host.specs.Calls.{outSlots}
-use Rattle.host.specs.Slots.{toldSlot, toldCount}
+use Rattle.host.specs.Slots.{slotShown, countShown}
 use Rattle.lists.specs.Bytes.{window}
 use Rattle.site.specs.Members.{setupOf, memberAt, outside, isLive}
 use Rattle.site.specs.Answers.{areaSize, answerOf}
@@ -94,8 +94,8 @@ pub record BoxesJustified (N : ℕ) (log : List BoxDetermination) : Type 0 where
 -- `hydra_slots` is answered by 0 for box j, and tells just the slots for which `hydra_read` shows the number j, and how many these are
 pub record SlotsAsRead (b : Box) (j : ℕ) : Type 0 where
   pub answer : slotsAnswer (b .area) (zeros slotsSize) ≡ Done
-  pub slots : (k : ℕ) → toldSlot (boxSlots b) k ≡ eqb (slotIn (reading b) k) j
-  pub count : toldCount (boxSlots b) ≡ howMany 80 (λ k. eqb (slotIn (reading b) k) j)
+  pub slots : (k : ℕ) → slotShown (boxSlots b) k ≡ eqb (slotIn (reading b) k) j
+  pub count : countShown (boxSlots b) ≡ howMany 80 (λ k. eqb (slotIn (reading b) k) j)
 
 -- the calls work
 pub record Working (x : Fleet) : Type 0 where
@@ -167,6 +167,6 @@ pub record FieldDemand3 (f : Config) (t : Table) (left : ℕ → List ℕ) (acts
   pub plain : Plain (fleetFinal f t left acts)
   pub replayed : (area : List ℕ) → areaSize ≤ length area → Replayed f t left area acts
 
--- the theorem's statement: proved in proofs/Theorem.antt
+-- the theorem's statement: proved in proofs/fleet/Theorem.antt
 pub record FleetHolds : Type 0 where
   pub demand3 : (f : Config) (t : Table) (left : ℕ → List ℕ) → Begins f t left → (acts : List Act) → FieldDemand3 f t left acts

@@ -3,7 +3,7 @@
 -- Assumes nothing.
 use mathlib.Core.Path.{_≡_}
 use mathlib.Core.Bool.{false}
-use mathlib.Core.List.{List, [], _∷_}
+use mathlib.Core.List.{List, [], _∷_, _++_}
 use Prim.Native.Nat.{ℕ}
 use lib.ListN.{replicate}
 use Rattle.text.specs.Ascii.{ascii}
@@ -18,7 +18,8 @@ use Rattle.desk.specs.listings.Output.{eventsIn, unfit, outputOf}
 
 abbrev pub caseScript : List ℕ
 caseScript =
-    ascii "nodes slots rounds heard split\n3 4 1 1 0\nnode version flags want\n1 1 7 2\n2 1 7 2\n3 1 7 2\nevent node with\nsend 2 0\nsend 3 0\nhear 1 1\nhear 1 2\nclose 0 0\ntake 3 2\ntake 2 1\nend 0 0\n"
+    ascii "nodes slots rounds heard split\n3 4 1 1 0\nnode version flags want\n1 1 7 2\n2 1 7 2\n3 1 7 2\nevent node with\n"
+    ++ ascii "send 2 0\nsend 3 0\nhear 1 1\nhear 1 2\nclose 0 0\ntake 3 2\ntake 2 1\nend 0 0\n"
 
 abbrev pub caseListing : List ℕ
 caseListing =
@@ -40,9 +41,10 @@ caseOpening =
 -- the event lines, and nothing behind the last byte 10
 abbrev pub caseLines : List (List ℕ)
 caseLines =
-    ascii "send 2 0" ∷ ascii "send 3 0" ∷ ascii "hear 1 1" ∷ ascii "hear 1 2" ∷ ascii "close 0 0" ∷ ascii "take 3 2" ∷ ascii "take 2 1" ∷ ascii "end 0 0" ∷ [] ∷ []
+    ascii "send 2 0" ∷ ascii "send 3 0" ∷ ascii "hear 1 1" ∷ ascii "hear 1 2" ∷ ascii "close 0 0" ∷ ascii "take 3 2"
+    ∷ ascii "take 2 1" ∷ ascii "end 0 0" ∷ [] ∷ []
 
--- computed in proofs/Script.antt
+-- computed in proofs/guarantee/Script.antt
 pub record RealScript : Type 0 where
   pub fits : unfit caseScript zeros ≡ false
   pub opens : opening (split 10 caseScript) ≡ got caseOpening caseLines

@@ -32,7 +32,7 @@ rowOf t j = getD (t .rows) (j - 1) noRow
 abbrev pub firstDemand : Config → Table → ℕ → List Window → ℕ → ℕ
 firstDemand f t D ws j = demandAfter (f .nodes) j D ws 0 (rowOf t j .want)
 
--- the statement: proved in proofs/Proved.antt
+-- the statement: proved in proofs/service/Proved.antt
 pub record Service : Type 0 where
   -- of every node area a, for node j of N, a day of D epochs, and the epoch e that begins with this end
   pub same : (N j D e : ℕ) (ws : List Window) → demandAnswer N j D ws e ≡ Done → (a : List ℕ) → valid a ≡ true

@@ -32,9 +32,9 @@ use Rattle.tally.proofs.Steps.{same-answer, same-site, stays-valid}
 use Rattle.agreement.specs.accounts.Accounts.{epochSite}
 use Rattle.agreement.proofs.accounts.Counted.{Goes, goes}
 use Rattle.agreement.proofs.accounts.Slots.{Sums, sums-step}
-use Rattle.machine.specs.turn.Kept.{Kept, keptAnswer, nextKept, keptAfter}
-use Rattle.machine.specs.turn.Stored.{lentTooShort, keptIn, stepAnswer, stepAccepted, stepKept}
-use Rattle.machine.proofs.turn.Laws.{step-accepts}
+use Rattle.machine.specs.combined.Kept.{Kept, keptAnswer, nextKept, keptAfter}
+use Rattle.machine.specs.combined.Stored.{lentTooShort, keptIn, stepAnswer, stepAccepted, stepKept}
+use Rattle.machine.proofs.combined.Laws.{step-accepts}
 use Rattle.calls.specs.ledger.Lists.{SiteStep, callsIn, pastBy, begunBy, Threaded, tallyBy, Accounted}
 
 -- an accepted event in lent storage

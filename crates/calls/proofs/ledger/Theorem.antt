@@ -36,9 +36,9 @@ use Rattle.calls.specs.lifted.Lifted.{Claim, Everywhere, Agreed, SendsAb
 use Rattle.calls.specs.lifted.Lifted.{Completes, Rises, Remains, Settles}
 use Rattle.calls.specs.lifted.Lifted as claims
 use Rattle.calls.proofs.lifted.Theorem.{lifts, lifted, calls-append}
-use Rattle.machine.specs.turn.Kept.{Kept}
-use Rattle.machine.specs.turn.Stored.{stepAnswer, stepAccepted, stepKept}
-use Rattle.machine.proofs.turn.Laws.{kept-refused, step-accepts}
+use Rattle.machine.specs.combined.Kept.{Kept}
+use Rattle.machine.specs.combined.Stored.{stepAnswer, stepAccepted, stepKept}
+use Rattle.machine.proofs.combined.Laws.{kept-refused, step-accepts}
 use Rattle.script.specs.declared.Parsed.{Parsed}
 use Rattle.script.specs.declared.Parsed.the-variants.{Malformed, Good}
 use Rattle.sites.specs.one.Memory.{memoryTooShort, dayIn, keptOf}

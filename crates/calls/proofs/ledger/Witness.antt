@@ -58,9 +58,9 @@ use Rattle.machine.proofs.timed.Laws.{loaded-site, done-after}
 use Rattle.machine.proofs.timed.Stored.{Long, given-store}
 use Rattle.tally.specs.Ends.{talliedAnswer}
 use Rattle.tally.specs.declared.Tally.{Tally}
-use Rattle.machine.specs.turn.Kept.{Kept, firstRefusal, keptAnswer}
-use Rattle.machine.specs.turn.Stored.{lentTooShort, reportTooShort, stepAnswer, stepAccepted, stepStore, stepKept}
-use Rattle.machine.proofs.turn.Laws.{first-refuses, step-accepts, kept-refused}
+use Rattle.machine.specs.combined.Kept.{Kept, firstRefusal, keptAnswer}
+use Rattle.machine.specs.combined.Stored.{lentTooShort, reportTooShort, stepAnswer, stepAccepted, stepStore, stepKept}
+use Rattle.machine.proofs.combined.Laws.{first-refuses, step-accepts, kept-refused}
 use Rattle.script.specs.declared.Parsed.{Parsed}
 use Rattle.script.specs.declared.Parsed.the-variants.{Malformed, Good}
 use Rattle.sites.specs.one.Memory.{atDay, atEpoch, memorySize, memoryTooShort, dayIn, withDay, timedOf, keptOf}

@@ -17,7 +17,7 @@ use Rattle.site.specs.Steps.{wantedSite}
 use Rattle.site.specs.declared.Event.the-variants.{Want}
 use Rattle.windows.specs.Windows.{listOk, dueAt, hasWindows}
 use Rattle.machine.specs.timed.Timed.{givenTable, timedLoadAnswer, loadedTimed}
-use Rattle.machine.specs.turn.Kept.{firstRefusal, keptAnswer}
+use Rattle.machine.specs.combined.Kept.{firstRefusal, keptAnswer}
 use Rattle.agreement.specs.daily.Daily.{beginBy}
 use Rattle.tally.specs.Counting.{firstTally}
 use Rattle.tally.specs.Ends.{talliedAnswer}

@@ -24,7 +24,7 @@ use Rattle.agreement.specs.daily.Daily.{beginBy}
 use Rattle.tally.specs.Ends.{tallyAt}
 use Rattle.tally.specs.declared.Tally.{Tally}
 use Rattle.calls.proofs.lifted.Theorem.{calls-append}
-use Rattle.machine.specs.turn.Kept.{firstRefusal}
+use Rattle.machine.specs.combined.Kept.{firstRefusal}
 use Rattle.script.specs.events.Events.{eventAt}
 use Rattle.script.specs.declared.Parsed.{Parsed}
 use Rattle.script.specs.declared.Parsed.the-variants.{Malformed, Good}

@@ -33,10 +33,10 @@ use Rattle.machine.specs.declared.Day.{Day}
 use Rattle.tally.specs.Counting.{tallyOk}
 use Rattle.tally.specs.Ends.{talliedAnswer, tallyAt}
 use Rattle.tally.specs.declared.Tally.{Tally}
-use Rattle.machine.specs.turn.Kept.{Kept, firstRefusal, keptAnswer}
-use Rattle.machine.specs.turn.Stored.{reportTooShort, keptIn, stepAnswer, stepAccepted}
-use Rattle.machine.specs.turn.Stored as machine
-use Rattle.machine.proofs.turn.Laws.{accepts}
+use Rattle.machine.specs.combined.Kept.{Kept, firstRefusal, keptAnswer}
+use Rattle.machine.specs.combined.Stored.{reportTooShort, keptIn, stepAnswer, stepAccepted}
+use Rattle.machine.specs.combined.Stored as machine
+use Rattle.machine.proofs.combined.Laws.{accepts}
 use Rattle.script.specs.declared.Parsed.{Parsed}
 use Rattle.script.specs.declared.Parsed.the-variants.{Malformed, Good}
 use Rattle.sites.specs.one.Calls.{tableFrom, nodeBytes, shownSize, showing, outNode}

@@ -43,8 +43,8 @@ use Rattle.machine.specs.timed.Stored.{storedLoadAnswer, timedLoadedStore, time
 use Rattle.machine.proofs.timed.Laws.{loaded-site}
 use Rattle.tally.specs.Counting.{firstTally}
 use Rattle.tally.specs.declared.Tally.{Tally}
-use Rattle.machine.specs.turn.Kept.{firstRefusal}
-use Rattle.machine.proofs.turn.Laws.{first-refuses}
+use Rattle.machine.specs.combined.Kept.{firstRefusal}
+use Rattle.machine.proofs.combined.Laws.{first-refuses}
 use Rattle.agreement.specs.daily.Daily.{beginBy}
 use Rattle.script.specs.declared.Parsed.the-variants.{Malformed}
 use Rattle.sites.specs.one.Calls.{tableFrom}

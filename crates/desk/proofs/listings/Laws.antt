@@ -132,23 +132,23 @@ module _ (s : List ℕ) (at e : ℕ) (h : Whole s at e) (ws : List Window) (p : 
   module _ (v : View) (st : Store) (d : Day) (b : List ℕ) (t : LineResult) (x : Site) (a : List ℕ) (k : t ≡ lineTaken v ws st d b p)
       (j : x ≡ lineAfter ws (runStateIn st d b) p .timed .site) (m : a ≡ lineAfter ws (runStateIn st d b) p .area) where
     abbrev reached : TimedState
-    reached = record { timed = record { site = x; day = t .turned .day }; area = a }
+    reached = record { timed = record { site = x; day = t .step .day }; area = a }
 
     state-is : lineAfter ws (runStateIn st d b) p ≡ reached
-    state-is = λ i. record { timed = record { site = sym j i; day = sym k i .turned .day }; area = sym m i }
+    state-is = λ i. record { timed = record { site = sym j i; day = sym k i .step .day }; area = sym m i }
 
     -- the list keeps the rules as before
-    pub next-list : listOk (siteIn st .config .nodes) (d .length) ws ≡ true → listOk (x .config .nodes) (t .turned .day .length) ws ≡ true
+    pub next-list : listOk (siteIn st .config .nodes) (d .length) ws ≡ true → listOk (x .config .nodes) (t .step .day .length) ws ≡ true
     next-list y = ap (λ (z : TimedState). listOk (z .timed .site .config .nodes) (z .timed .day .length) ws) (sym state-is)
         ∙ line-list ws (runStateIn st d b) p ∙ y
 
     pub next-lines : (wordsSize ≤ length (st .words)) × (bytesSize ≤ length (st .bytes)) → (n : ℕ)
-        → linesText v ws (runStateIn st d b) n (split 10 (drop at s)) ≡ lineText v n (t .turned .answer) (t .report)
+        → linesText v ws (runStateIn st d b) n (split 10 (drop at s)) ≡ lineText v n (t .step .answer) (t .report)
         ++ linesText v ws reached (n + 1) rest
     next-lines long n =
         lines-line v (runStateIn st d b) n
         ∙ ap₂ (λ (y : List ℕ) (z : TimedState). y ++ linesText v ws z (n + 1) rest)
-        (sym (stored-text v n ws st d b long p) ∙ ap (λ (y : LineResult). lineText v n (y .turned .answer) (y .report)) (sym k)) state-is
+        (sym (stored-text v n ws st d b long p) ∙ ap (λ (y : LineResult). lineText v n (y .step .answer) (y .report)) (sym k)) state-is
 
     pub next-run : runBy ws (runStateIn st d b) (eventsIn (split 10 (drop at s))) ≡ runBy ws reached (eventsIn rest)
     next-run = run-lines (runStateIn st d b) ∙ ap (λ (y : TimedState). runBy ws y (eventsIn rest)) state-is

@@ -19,7 +19,8 @@ use Rattle.windows.specs.declared.Windows.{Windows}
 use Rattle.windows.proofs.Laws.{too-many, copy-whole, copy-long}
 use Rattle.script.specs.load.Opening.{Reading, refused, got, Opening, opening}
 use Rattle.desk.specs.listing.Rows.{firstHead, refusalLine}
-use Rattle.desk.specs.listings.Output.{splitTold, loadedState, finished, dayFits, ranText, body, bodyArea, unfit, outputOf, finalArea}
+use Rattle.desk.specs.listings.Output.{splitShown, loadedState, finished, dayFits, ranText, body, bodyArea}
+use Rattle.desk.specs.listings.Output.{unfit, outputOf, finalArea}
 use Rattle.desk.specs.listings.Why.{reasonLines, refusalPart, headPart, whyBody, whyOf}
 use Rattle.desk.specs.listings.Calls.{textOf, outputFits, runAnswer, outAfter, areaAfterRun, lengthAfter, replayedOf}
 use Rattle.desk.specs.declared.Replayed.{Replayed}
@@ -60,9 +61,9 @@ module _ (D : ℕ) (ws : List Window) where
   text-seen : (v : View) (script area : List ℕ) → textOf v D seen script area ≡ textOf v D ws script area
   unfolding outputOf whyOf
   text-seen (Reasons j) script area = ap (cond (unfit script area) (refusalPart j 0 0 NoRoom))
-      (part-seen j (splitTold script area) area (opening (split 10 script)))
+      (part-seen j (splitShown script area) area (opening (split 10 script)))
   text-seen Refusals script area =
-      ap (λ (x : List ℕ). firstHead (splitTold script area) ++ cond (unfit script area) (refusalLine 0 NoRoom) x)
+      ap (λ (x : List ℕ). firstHead (splitShown script area) ++ cond (unfit script area) (refusalLine 0 NoRoom) x)
       (body-seen area (opening (split 10 script)))
 
   final-seen : (script area : List ℕ) → finalArea D seen script area ≡ finalArea D ws script area

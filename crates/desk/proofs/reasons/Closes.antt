@@ -81,7 +81,9 @@ same-long (x ∷ s) (y ∷ t) h = ap suc (same-long s t (and-right (eqb x y) (sa
 word-close : (w : List ℕ) (t : Two) → closes (made (wordNumber w) t) ≡ true → (length w ≡ 5) × (isPair t ≡ true)
 unfolding numberFrom
 word-close w t h =
-    let q = made-close (same w (ascii "send")) (same w (ascii "hear")) (same w (ascii "close")) (same w (ascii "take")) (same w (ascii "end")) (same w (ascii "want")) (same w (ascii "crash")) (same w (ascii "restart")) t h in
+    let q =
+    made-close (same w (ascii "send")) (same w (ascii "hear")) (same w (ascii "close")) (same w (ascii "take"))
+    (same w (ascii "end")) (same w (ascii "want")) (same w (ascii "crash")) (same w (ascii "restart")) t h in
     (same-long w (ascii "close") (q .0), q .1)
 
 -- two numbers are two fields of a byte or more

@@ -85,7 +85,7 @@ abbrev pub withLine : Page → List ℕ → Page
 withLine p b = cond (leb (p .at + length b) (length (p .bytes))) (page (written (p .bytes) (p .at) b) (p .at + length b)) p
 
 -- the rows of n nodes behind the first i of a site in storage, at most 80 slots of each; with room for all of them that is `rowsText`
--- (`rows-put`, proofs/Rows.antt)
+-- (`rows-put`, proofs/listing/Rows.antt)
 unfoldable pub withRows : ℕ → ℕ → Store → ℕ → Page → Page
 withRows zero i s K p = p
 withRows (suc n) i s K p = withRows n (i + 1) s K (withLine p (rowText (i + 1) (memberRead s (i + 1)) (min K 80)))

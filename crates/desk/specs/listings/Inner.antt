@@ -41,8 +41,8 @@ abbrev pub runStateIn : Store → Day → List ℕ → TimedState
 runStateIn s d a = record { timed = timedIn s d; area = a }
 
 -- the answer to a line with the day after it
-abbrev pub lineTurned : List Window → TimedState → Parsed → DayAnswer
-lineTurned ws w p = record { answer = lineAnswer ws w p; day = lineAfter ws w p .timed .day }
+abbrev pub lineDayAnswer : List Window → TimedState → Parsed → DayAnswer
+lineDayAnswer ws w p = record { answer = lineAnswer ws w p; day = lineAfter ws w p .timed .day }
 
 -- what is told of an event of a site in storage, were it the next one: where the reasons of a node are asked for, what the node reports
 abbrev pub eventNodeReport : View → Store → List ℕ → Event → NodeReport
@@ -56,7 +56,7 @@ lineNodeReport v s a (Good e) = eventNodeReport v s a e
 
 -- what a line gives
 abbrev pub lineTaken : View → List Window → Store → Day → List ℕ → Parsed → LineResult
-lineTaken v ws s d a p = record { turned = lineTurned ws (runStateIn s d a) p; report = lineNodeReport v s a p }
+lineTaken v ws s d a p = record { step = lineDayAnswer ws (runStateIn s d a) p; report = lineNodeReport v s a p }
 
 -- what is printed of a line
 abbrev pub lineText : View → ℕ → Answer → NodeReport → List ℕ

@@ -112,12 +112,12 @@ abbrev pub unfit : List ℕ → List ℕ → Bool
 unfit script area = ltb (length area) areaSize || ltb topScript (length script)
 
 -- whether the first head says that the site may split: by the settings, where their line is accepted; 0 where the script isn't read
-abbrev pub splitTold : List ℕ → List ℕ → ℕ
-splitTold script area = cond (unfit script area) 0 (configRead (split 10 script) .split)
+abbrev pub splitShown : List ℕ → List ℕ → ℕ
+splitShown script area = cond (unfit script area) 0 (configRead (split 10 script) .split)
 
 -- what is printed
 unfoldable pub outputOf : ℕ → List Window → List ℕ → List ℕ → List ℕ
-outputOf D ws script area = firstHead (splitTold script area)
+outputOf D ws script area = firstHead (splitShown script area)
     ++ cond (unfit script area) (refusalLine 0 NoRoom) (body D ws area (opening (split 10 script)))
 
 -- what the packet area holds then

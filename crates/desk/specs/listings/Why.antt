@@ -13,7 +13,7 @@ use Rattle.script.specs.events.Events.{eventOf}
 use Rattle.script.specs.load.Opening.{Reading, refused, got, Opening, opening}
 use Rattle.desk.specs.listing.Rows.{firstHead, refusalLine}
 use Rattle.desk.specs.reasons.Reasons.{reasonOf, lineReport}
-use Rattle.desk.specs.listings.Output.{topScript, lineAfter, loadedState, dayFits, unfit, splitTold}
+use Rattle.desk.specs.listings.Output.{topScript, lineAfter, loadedState, dayFits, unfit, splitShown}
 
 -- the head over the reasons
 abbrev pub reasonsHead : List ℕ
@@ -49,7 +49,7 @@ whyBody j D ws split area (got o ls) =
 unfoldable pub whyOf : ℕ → ℕ → List Window → List ℕ → List ℕ → List ℕ
 whyOf j D ws script area =
     cond (unfit script area) (refusalPart j 0 0 NoRoom)
-    (whyBody j D ws (splitTold script area) area (opening (split 10 script)))
+    (whyBody j D ws (splitShown script area) area (opening (split 10 script)))
 
 -- room that is enough for a part of the output of a script of n bytes: a close is a line of ten bytes, and a node prints at most 39
 abbrev pub whyRoom : ℕ → ℕ

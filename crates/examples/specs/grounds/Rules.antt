@@ -79,7 +79,7 @@ pub record Missing (n : Node) : Type 0 where
   pub least : (j : ℕ) → j < missingOf n → isIn (n .round .merged) j ≡ true → isIn (requesters (n .round .known)) j ≡ true
   pub small : missingOf n ≤ 32
 
--- the theorem's statement, for every node: proved in proofs/Theorem.antt
+-- the theorem's statement, for every node: proved in proofs/grounds/Theorem.antt
 pub record GroundsRight : Type 0 where
   pub exact : (n : Node) → Exact n
   pub sending : (n : Node) → Sending n

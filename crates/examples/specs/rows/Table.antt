@@ -1,5 +1,5 @@
 -- Specification, 11 Worked cases: each starred case as a row of the figures that the definitions give and those that the case says.
--- proofs/Check.antt checks the whole table.
+-- proofs/rows/Check.antt checks the whole table.
 -- Assumes nothing.
 use mathlib.Core.Bool.{Bool, true, false, _&&_}
 use mathlib.Core.List.{List, [], _∷_, _++_}

@@ -10,7 +10,7 @@ use Rattle.node.specs.declared.Answer.the-variants.{Done, OutOfRange, NoSuchNod
 use Rattle.windows.specs.Windows.{listOk, dueAt, lookedOf}
 use Rattle.windows.specs.declared.Window.{Window}
 use Rattle.host.specs.lookup.Lookup.{nodesOk, demandAnswer, demandAfter}
-use Rattle.host.specs.lookup.Inner.{answerBy, foundBy}
+use Rattle.host.specs.lookup.Inner.{demandAnswerBy, foundBy}
 
 pub answer-seen : (N j D : ℕ) (ws : List Window) (e d : ℕ) → foundBy N j D (lookedOf N D ws j e d) e d .code
     ≡ number (demandAnswer N j D ws e)

@@ -11,8 +11,8 @@ use Rattle.host.specs.lookup.Lookup.{nodesOk}
 use Rattle.host.specs.declared.Found.{Found}
 
 -- the answer, where the test of the day and the list gave t
-abbrev pub answerBy : ℕ → ℕ → ℕ → Bool → ℕ → Answer
-answerBy N j D t e =
+abbrev pub demandAnswerBy : ℕ → ℕ → ℕ → Bool → ℕ → Answer
+demandAnswerBy N j D t e =
     cond (not (nodesOk N)) OutOfRange
     (cond (not (leb 1 j && leb j N)) NoSuchNode
     (cond (not t) BadWindows
@@ -20,4 +20,6 @@ answerBy N j D t e =
 
 -- the answer's number with the demand, of a list that was looked at
 abbrev pub foundBy : ℕ → ℕ → ℕ → Looked → ℕ → ℕ → Found
-foundBy N j D l e d = record { code = number (answerBy N j D (l .ok) e); demand = cond (isDone (answerBy N j D (l .ok) e)) (l .demand) d }
+foundBy N j D l e d =
+    let a = demandAnswerBy N j D (l .ok) e in
+    record { code = number a; demand = cond (isDone a) (l .demand) d }

@@ -21,7 +21,7 @@ use Rattle.machine.specs.Loading.{headerRead}
 use Rattle.machine.specs.steps.After.{nextStore, storageAnswer, storeAfter, areaWith}
 use Rattle.machine.specs.timed.Timed.{Timed, answerBy, inLastRound, nextDay, timedAnswer, nextTimed, timedAfter}
 use Rattle.machine.specs.timed.Stored.{timedIn, storedAnswer, storedDay, dayAnswer, begunStore, timedStore, answeredBy, dayBy}
-use Rattle.machine.specs.timed.Stored.{turnedBy, storeBy}
+use Rattle.machine.specs.timed.Stored.{dayAnswerBy, storeBy}
 use Rattle.machine.specs.timed.Inner.{dayBegun, listVerdict}
 use Rattle.machine.specs.declared.Day.{Day}
 use Rattle.machine.proofs.Whole.{as-header, long-enough}
@@ -31,7 +31,7 @@ module _ (ok : Bool) (s : Store) (d : Day) (l : List ℕ) (ws : List Window) whe
   -- answer, day, words, bytes and area, each as its definition has it
   abbrev pub TestedIs : Event → Answer → Day → List ℕ → List ℕ → List ℕ → Type 0
   TestedIs e a n w b x =
-      (record { answer = a; day = n } ≡ turnedBy ok s d l e)
+      (record { answer = a; day = n } ≡ dayAnswerBy ok s d l e)
       × ((w ≡ storeBy ok s d l ws e .words) × ((b ≡ storeBy ok s d l ws e .bytes) × (x ≡ areaWith s l e)))
 
   -- what is no end is the event of the storage
@@ -169,7 +169,7 @@ module _ (s : Store) (d : Day) (l : List ℕ) (ws : List Window) (e : Event) {ok
       go false k = skip _ _ _ _ k (told (isDone (timedAnswer t l ws e)) k refl)
           ∙ ap (λ (a : Answer). cond (isDone a) (nextDay t e) d) by-answer
 
-  pub turned-by : dayAnswer s d l ws e ≡ turnedBy ok s d l e
+  pub turned-by : dayAnswer s d l ws e ≡ dayAnswerBy ok s d l e
   turned-by = λ i. record { answer = by-answer i; day = by-day i }
 
   pub store-by : timedStore s d l ws e ≡ storeBy ok s d l ws e

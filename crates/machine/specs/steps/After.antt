@@ -60,7 +60,7 @@ storageAnswer s area e = cond (tooShort s) NoRoom (answerOf (siteIn s) area e)
 unfoldable pub storeAfter : Store → List ℕ → Event → Store
 storeAfter s area e = cond (isDone (storageAnswer s area e)) (nextStore s area e) s
 
--- the site that the storage stands for then: proved in proofs/Follows.antt
+-- the site that the storage stands for then: proved in proofs/steps/Follows.antt
 unfoldable pub siteWith : Store → List ℕ → Event → Site
 siteWith s area e = cond (tooShort s) (siteIn s) (siteAfter (siteIn s) area e)
 

@@ -86,8 +86,8 @@ answeredBy ok s area e = cond (tooShort s) NoRoom (answerBy ok (siteIn s) area e
 unfoldable pub dayBy : Bool → Store → Day → List ℕ → Event → Day
 dayBy ok s d area e = cond (isDone (answeredBy ok s area e)) (nextDay (timedIn s d) e) d
 
-abbrev pub turnedBy : Bool → Store → Day → List ℕ → Event → DayAnswer
-turnedBy ok s d area e = record { answer = answeredBy ok s area e; day = dayBy ok s d area e }
+abbrev pub dayAnswerBy : Bool → Store → Day → List ℕ → Event → DayAnswer
+dayAnswerBy ok s d area e = record { answer = answeredBy ok s area e; day = dayBy ok s d area e }
 
 unfoldable pub storeBy : Bool → Store → Day → List ℕ → List Window → Event → Store
 storeBy ok s d area ws e = cond (isDone (answeredBy ok s area e)) (storeAfter (begunStore s d area ws e) area e) s

@@ -1,5 +1,5 @@
 -- Specification, 3.2 Close and 3.4 End: how many nodes are more than half of N, read off a sheet (S-4). The paper's test is a doubled sum
--- (lines 24 and 47); proofs/Laws.antt has that it comes to the same.
+-- (lines 24 and 47); proofs/majority/Laws.antt has that it comes to the same.
 -- Assumes nothing.
 use mathlib.Core.Bool.{Bool, not, _&&_}
 use mathlib.Core.List.{List, [], _∷_}

@@ -10,7 +10,7 @@ use Rattle.machine.proofs.timed.Stored.{as-timed}
 use Rattle.script.specs.declared.Parsed.{Parsed}
 use Rattle.script.specs.declared.Parsed.the-variants.{Good}
 use Rattle.desk.specs.listings.Output.{lineAfter}
-use Rattle.desk.specs.listings.Inner.{runStateIn, lineTurned}
+use Rattle.desk.specs.listings.Inner.{runStateIn, lineDayAnswer}
 use Rattle.reduce.specs.Reduced.{isRefusal}
 use Rattle.reduce.specs.Inner.{trialStepBy}
 use borrow.Author.Needs.{needs}
@@ -65,7 +65,8 @@ returns-2 c =
     let e = c14 .p .given .1 in
     let o = c .before .before .before .before .before .before .before .before .step .ensures in
     let t = as-timed s (a .day) (a .area .now) [] v (c19 .pre) in
-    let k : _ ≡ lineTurned [] x (Good v) = o .0 ∙ ap (λ (ws : List Window). dayAnswer s (a .day) (a .area .now) ws v) no-words ∙ t .0 in (
+    let k : _ ≡ lineDayAnswer [] x (Good v) =
+    o .0 ∙ ap (λ (ws : List Window). dayAnswer s (a .day) (a .area .now) ws v) no-words ∙ t .0 in (
       (λ i. record { gave = (c .is-refusal2 .ensures ∙ ap (λ (u : DayAnswer). isRefusal (a .number) (u .answer)) k) i; day = k i .day })
           ∙ sym (ap (trialStepBy true (a .number) x) e),
       (

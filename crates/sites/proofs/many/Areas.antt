@@ -32,8 +32,8 @@ use Rattle.machine.specs.reports.Reports.{reportsSize, reportOf, reportBytes, p
 use Rattle.tally.specs.Counting.{tallyOk}
 use Rattle.tally.specs.Ends.{talliedAnswer, tallyAt}
 use Rattle.tally.specs.declared.Tally.{Tally}
-use Rattle.machine.specs.turn.Kept.{Kept, firstRefusal, keptAnswer, nextKept, keptAfter}
-use Rattle.machine.specs.turn.Stored.{keptIn, reportTooShort, lentTooShort, stepAnswer, stepStore, stepReport, stepKept}
+use Rattle.machine.specs.combined.Kept.{Kept, firstRefusal, keptAnswer, nextKept, keptAfter}
+use Rattle.machine.specs.combined.Stored.{keptIn, reportTooShort, lentTooShort, stepAnswer, stepStore, stepReport, stepKept}
 use Rattle.group.specs.Calls.{isSend}
 use Rattle.group.proofs.Sites.{area-kept}
 use Rattle.sites.specs.many.Inner.{isHear}

@@ -33,23 +33,23 @@ use Rattle.machine.proofs.reports.Laws.{no-close-put}
 use Rattle.tally.specs.Counting.{tallyOk}
 use Rattle.tally.specs.Ends.{talliedAnswer, tallyAt}
 use Rattle.tally.specs.declared.Tally.{Tally}
-use Rattle.machine.specs.turn.Kept.{Kept, firstRefusal, keptAnswer}
-use Rattle.machine.specs.turn.Stored.{keptIn, reportTooShort, lentTooShort, stepAnswer, stepAccepted, stepStore, stepReport, stepKept}
-use Rattle.machine.specs.turn.Stored.{stepResult}
+use Rattle.machine.specs.combined.Kept.{Kept, firstRefusal, keptAnswer}
+use Rattle.machine.specs.combined.Stored.{keptIn, reportTooShort, lentTooShort, stepAnswer, stepAccepted, stepStore, stepReport, stepKept}
+use Rattle.machine.specs.combined.Stored.{stepResult}
 use Rattle.machine.specs.declared.StepResult.{StepResult}
-use Rattle.machine.proofs.turn.Laws.{few-short, kept-refused, store-refused, step-timed}
+use Rattle.machine.proofs.combined.Laws.{few-short, kept-refused, store-refused, step-timed}
 use Rattle.group.specs.Places.{freed}
 use Rattle.group.specs.Group.{ownShare}
 use Rattle.group.specs.Calls.{isSend, crowded}
 use Rattle.group.specs.Steps.{nextPlaces, nextBytes}
 use Rattle.group.proofs.Parts.{own-long}
 use Rattle.sites.specs.many.Memory.{Lent}
-use Rattle.sites.specs.many.Inner.{isHear, partOf, OneSite, around, timedOf, sentCount, ownAreaOf, keptBy, plainBy}
+use Rattle.sites.specs.many.Inner.{isHear, eventPart, OneSite, around, timedOf, sentCount, ownAreaOf, keptBy, plainBy}
 use Rattle.sites.specs.many.Inner.{shortBy, takenBy}
 use Rattle.sites.specs.declared.Part.{Part}
 use Rattle.sites.specs.declared.Part.the-variants.{Sends, Hears, Neither}
-use Rattle.sites.specs.many.Inner.{stepResultBy, storeBy, siteBy, placesBy, areaBy, reportBy, listAnswer, groupSendAnswer, sendShort}
-use Rattle.sites.specs.many.Inner.{sendTaken}
+use Rattle.sites.specs.many.Inner.{stepResultBy, lentStoreBy, siteBy, placesBy, areaBy, reportBy, listAnswer, groupSendAnswer}
+use Rattle.sites.specs.many.Inner.{sendShort, sendTaken}
 use Rattle.sites.specs.many.Inner.{sendNumber, sendStore, sendPlaces, sendArea, groupHearAnswer, hearStore}
 use Rattle.sites.proofs.many.Areas.{timed-by, tally-by, area-by, step-answer, step-store, step-report, kept-timed, kept-tally}
 
@@ -59,7 +59,7 @@ whole (Sends j) e = Send j
 whole (Hears j p) e = Hear j p
 whole Neither e = e
 
-pub whole-is : (e : Event) → whole (partOf e) e ≡ e
+pub whole-is : (e : Event) → whole (eventPart e) e ≡ e
 whole-is (Send j) = refl
 whole-is (Hear j p) = refl
 whole-is Close = refl
@@ -74,7 +74,7 @@ isNeither (Sends j) = false
 isNeither (Hears j p) = false
 isNeither Neither = true
 
-pub neither-is : (e : Event) → partOf e ≡ Neither → (isSend e ≡ false) × (isHear e ≡ false)
+pub neither-is : (e : Event) → eventPart e ≡ Neither → (isSend e ≡ false) × (isHear e ≡ false)
 neither-is (Send j) h = clash (isNeither (Sends j)) (ap isNeither h) refl
 neither-is (Hear j p) h = clash (isNeither (Hears j p)) (ap isNeither h) refl
 neither-is Close h = (refl, refl)
@@ -100,8 +100,8 @@ either false y = refl
 abbrev pub DayAnswer : OneSite → Bool → Lent → Event → StepResult → List ℕ → List ℕ → List ℕ → List ℕ → List ℕ → Type 0
 DayAnswer x full v e r w b l y o =
     (r ≡ stepResultBy x full v e)
-    × ((w ≡ storeBy x full v e .words)
-    × ((b ≡ storeBy x full v e .bytes)
+    × ((w ≡ lentStoreBy x full v e .words)
+    × ((b ≡ lentStoreBy x full v e .bytes)
     × ((l ≡ placesBy x full v e) × ((y ≡ areaBy x full v e) × ((o ≡ reportBy x full v e) × (siteIn (store w b) ≡ siteBy x full v e))))))
 
 -- all that is refused leaves all as it was
@@ -109,7 +109,7 @@ refused-turn : (x : OneSite) (full : Bool) (v : Lent) (e : Event) {n : ℕ} → 
     ≡ cond (shortBy x full v e) crowded (number (plainBy x v e))
     → DayAnswer x full v e (record { code = n; day = x .day; tally = v .tally }) (x .store .words) (x .store .bytes) (x .places) (x .area)
     (v .out)
-unfolding stepResultBy storeBy siteBy placesBy areaBy reportBy
+unfolding stepResultBy lentStoreBy siteBy placesBy areaBy reportBy
 refused-turn x full v e {n} h k =
     let d : x .day ≡ cond (takenBy x full v e) (keptBy x v e .timed .day) (x .day) = sym (skip _ _ _ _ h refl) in
     let t : v .tally ≡ cond (takenBy x full v e) (keptBy x v e .tally) (v .tally) = sym (skip _ _ _ _ h refl) in
@@ -237,8 +237,8 @@ module _ (x : OneSite) (v : Lent) (few : lentTooShort (x .store) (x .area) (v .o
         ∙ sym (ap (λ (z : Timed). z .site)
         (step-timed s d own ws t out e (ap isDone (sym (plain-is e)) ∙ a) ∙ plain-after (timedOf x) own ws e h))
 
-    site-by : (full : Bool) → siteIn (storeBy x full v e) ≡ siteBy x full v e
-    unfolding storeBy siteBy takenBy
+    site-by : (full : Bool) → siteIn (lentStoreBy x full v e) ≡ siteBy x full v e
+    unfolding lentStoreBy siteBy takenBy
     site-by full =
         read-choice siteIn (takenBy x full v e) _ _
         ∙ at-test (takenBy x full v e) _ _ _ (λ a. site-own (and-left _ (not (shortBy x full v e)) a))
@@ -281,8 +281,8 @@ module _ (x : OneSite) (v : Lent) (few : lentTooShort (x .store) (x .area) (v .o
         let q = both-done (siteSend (siteIn s) j) said (done-is (groupSendAnswer s said j) (ap isDone (sym send-plain) ∙ a)) in
         step-kept (Send j) refl a ∙ hit _ _ _ (ap isDone (storage-own (Send j) ∙ own-send ∙ q .0))
 
-    store-is : storeBy x full v (Send j) ≡ sendStore s said full j
-    unfolding storeBy sendStore takenBy
+    store-is : lentStoreBy x full v (Send j) ≡ sendStore s said full j
+    unfolding lentStoreBy sendStore takenBy
     store-is =
         at-test (takenBy x full v (Send j)) _ _ _ (λ a. send-stored (and-left _ (not (shortBy x full v (Send j))) a))
         ∙ ap (λ (b : Bool). cond b (sentStore s j) s) taken-is
@@ -303,8 +303,8 @@ module _ (x : OneSite) (v : Lent) (few : lentTooShort (x .store) (x .area) (v .o
         sym (read-same (λ (z : List ℕ). z) T (stepReport s d own ws t out (Send j)) out out (report-kept (Send j) refl refl) refl) in
         let w : s .words ≡ sendStore s said full j .words =
         sym (read-same (λ (z : Store). z .words) (sendTaken s said full j) (sentStore s j) s (s .words) refl refl) in
-        let ww : s .words ≡ storeBy x full v (Send j) .words = w ∙ ap (λ (z : Store). z .words) (sym store-is) in
-        let bb : b ≡ storeBy x full v (Send j) .bytes = p ∙ ap (λ (z : Store). z .bytes) (sym store-is) in (
+        let ww : s .words ≡ lentStoreBy x full v (Send j) .words = w ∙ ap (λ (z : Store). z .words) (sym store-is) in
+        let bb : b ≡ lentStoreBy x full v (Send j) .bytes = p ∙ ap (λ (z : Store). z .bytes) (sym store-is) in (
           (λ i. record { code = c i; day = n i; tally = u i }),
           (
             ww,
@@ -346,7 +346,7 @@ module _ (x : OneSite) (v : Lent) (few : lentTooShort (x .store) (x .area) (v .o
         → l ≡ cond (isDone (plainBy x v e)) (nextPlaces (x .places) (x .number) (sentCount x) e) (x .places) → y
         ≡ cond (isDone (plainBy x v e)) (nextBytes (around x) (timedOf x) e) (x .area)
         → o ≡ stepReport s d own ws t out e → siteIn (store w b) ≡ keptBy x v e .timed .site → DayAnswer x full v e r w b l y o
-    unfolding stepResultBy storeBy siteBy placesBy areaBy reportBy stepReport
+    unfolding stepResultBy lentStoreBy siteBy placesBy areaBy reportBy stepReport
     plain-turn-by {r} {w} {b} {l} {y} {o} p m u z q f =
         let T = takenBy x full v e in
         let c : number (plainBy x v e) ≡ cond (shortBy x full v e) crowded (number (plainBy x v e)) = sym (skip _ _ _ _ never-short refl) in
@@ -475,7 +475,7 @@ module _ (x : OneSite) (v : Lent) (few : lentTooShort (x .store) (x .area) (v .o
 -- what is no send does not look at the common places
 pub unfull : (x : OneSite) (v : Lent) (full : Bool) (e : Event) → isSend e ≡ false → {r : StepResult} {w b l y o : List ℕ}
     → DayAnswer x false v e r w b l y o → DayAnswer x full v e r w b l y o
-unfolding stepResultBy storeBy siteBy placesBy areaBy reportBy takenBy shortBy
+unfolding stepResultBy lentStoreBy siteBy placesBy areaBy reportBy takenBy shortBy
 unfull x v full e h {r} {w} {b} {l} {y} {o} z =
     subst (λ (s : Bool). (r ≡ told s)
     × ((w ≡ st s .words) × ((b ≡ st s .bytes) × ((l ≡ pl s) × ((y ≡ ar s) × ((o ≡ re s) × (siteIn (store w b) ≡ si s))))))) q z

@@ -27,9 +27,9 @@ use Rattle.windows.specs.declared.Window.{Window}
 use Rattle.machine.specs.timed.Timed.{Timed, firstEpoch, timedLoadAnswer, loadedTimed, timedAnswer, timedAfter}
 use Rattle.machine.specs.timed.Stored.{timedIn, storedLoadAnswer, timedLoadedStore, timedLoadedSite}
 use Rattle.machine.proofs.timed.Stored.{as-begun}
-use Rattle.machine.specs.turn.Kept.{firstRefusal}
-use Rattle.machine.specs.turn.Stored.{stepAnswer, stepAccepted, stepStore, stepReport, stepKept}
-use Rattle.machine.proofs.turn.Laws.{step-accepts, step-timed}
+use Rattle.machine.specs.combined.Kept.{firstRefusal}
+use Rattle.machine.specs.combined.Stored.{stepAnswer, stepAccepted, stepStore, stepReport, stepKept}
+use Rattle.machine.proofs.combined.Laws.{step-accepts, step-timed}
 use Rattle.sites.specs.declared.Tallied.{Tallied}
 use Rattle.group.specs.Places.{topPlaces, freed}
 use Rattle.group.specs.Group.{SiteSlot, Empty, Taken, Group, isNumber, siteSlotOf, packetsIn, ownShare, commonShare, beyond, common}
@@ -48,7 +48,7 @@ use Rattle.sites.specs.many.Calls.{isHeeded, ownKept, nextMemory, afterE
 use Rattle.sites.specs.many.Calls.{groupAfter}
 use Rattle.sites.specs.many.Calls.{groupEventTallied}
 use Rattle.sites.specs.many.Inner.{OneSite, around, timedOf, sentCount, ownAreaOf, keptBy, plainBy, shortBy, takenBy, stepResultBy}
-use Rattle.sites.specs.many.Inner.{storeBy, siteBy}
+use Rattle.sites.specs.many.Inner.{lentStoreBy, siteBy}
 use Rattle.sites.specs.many.Inner.{placesBy, areaBy, reportBy, commonIn, commonFull, loneIn, memoryBy, loadedBy, Sized}
 use Rattle.sites.proofs.many.Lists.{length-span, span-again}
 use Rattle.sites.proofs.many.Memories.{Lengths, lengths, group-then, same-again}
@@ -286,9 +286,9 @@ module _ (m : Memory) (area : List ℕ) (a : ℕ) (v : Lent) (e : Event) (h : is
   -- a refused event leaves all as it was
   module _ (no : takenBy x full v e ≡ false) where
     memory-kept : memoryBy m area i a v e ≡ m
-    unfolding memoryBy storeBy placesBy stepResultBy
+    unfolding memoryBy lentStoreBy placesBy stepResultBy
     memory-kept =
-        let s : storeBy x full v e ≡ storeAt m i = skip _ _ _ _ no refl in
+        let s : lentStoreBy x full v e ≡ storeAt m i = skip _ _ _ _ no refl in
         let p : placesBy x full v e ≡ placesIn (m .table) = skip _ _ _ _ no refl in
         let d : stepResultBy x full v e .day ≡ dayAt (m .table) i = skip _ _ _ _ no refl in
         (λ k. memory (storeWords m i (s k)) (storeBytes m i (s k)) (tableWith (m .table) (p k) i (d k)))
@@ -299,12 +299,12 @@ module _ (m : Memory) (area : List ℕ) (a : ℕ) (v : Lent) (e : Event) (h : is
     area-kept = skip _ _ _ _ no refl
 
   memory-is : memoryBy m area i a v e ≡ afterEvent m area a v e
-  unfolding afterEvent memoryBy storeBy placesBy stepResultBy
+  unfolding afterEvent memoryBy lentStoreBy placesBy stepResultBy
   memory-is = go (takenBy x full v e) refl
     where
       go : (t : Bool) → takenBy x full v e ≡ t → memoryBy m area i a v e ≡ cond (isHeeded m area a v e) (nextMemory m area a v e) m
       go true k =
-          let s : storeBy x full v e ≡ stepStore (storeAt m i) (dayAt (m .table) i) (ownAreaIn m area a) (v .windows)
+          let s : lentStoreBy x full v e ≡ stepStore (storeAt m i) (dayAt (m .table) i) (ownAreaIn m area a) (v .windows)
           (v .tally) (v .out) e =
           hit _ _ _ k ∙ ap (λ (o : List ℕ). stepStore (storeAt m i) (dayAt (m .table) i) o (v .windows) (v .tally) (v .out) e) (sym own-in)
           in
@@ -329,8 +329,8 @@ module _ (m : Memory) (area : List ℕ) (a : ℕ) (v : Lent) (e : Event) (h : is
   report-is = λ k. cond (sym heed-is k) (stepReport (storeAt m i) (dayAt (m .table) i) (sym own-in k) (v .windows) (v .tally) (v .out) e)
       (v .out)
 
-  module _ (sized : Sized (storeBy x full v e)) (placed : length (placesBy x full v e) ≡ topPlaces)
-      (stands : siteIn (storeBy x full v e) ≡ siteBy x full v e) where
+  module _ (sized : Sized (lentStoreBy x full v e)) (placed : length (placesBy x full v e) ≡ topPlaces)
+      (stands : siteIn (lentStoreBy x full v e) ≡ siteBy x full v e) where
     after-is : groupIn (memoryBy m area i a v e) (areaBy x full v e) ≡ cond (isHeeded m area a v e) (afterGroup G c) G
     unfolding memoryBy afterGroup siteBy placesBy areaBy stepResultBy
     after-is = go (takenBy x full v e) refl
@@ -345,7 +345,7 @@ module _ (m : Memory) (area : List ℕ) (a : ℕ) (v : Lent) (e : Event) (h : is
             ∙ ap (λ (z : Timed). z .day) time in
             let p : placesBy x full v e ≡ nextPlaces (placesIn (m .table)) a (sentCount x) e = hit _ _ _ k in
             let y : areaBy x full v e ≡ nextBytes (around x) (timedOf x) e = hit _ _ _ k in
-            group-then m (loaded-lengths m a h) i (low m a h) (storeBy x full v e) sized (placesBy x full v e) placed
+            group-then m (loaded-lengths m a h) i (low m a h) (lentStoreBy x full v e) sized (placesBy x full v e) placed
             (stepResultBy x full v e .day) (areaBy x full v e)
             ∙ (λ j. record {
               siteSlots = set (tab 8 (siteSlotIn m)) i (Taken (record { site = s j; day = d j }));

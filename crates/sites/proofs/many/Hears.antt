@@ -23,8 +23,8 @@ use Rattle.machine.specs.Layout.{Store, wordsSize, bytesSize, siteIn}
 use Rattle.machine.proofs.Whole.{enough}
 use Rattle.machine.specs.steps.After.{heardPart, heardStore, siteHeard, partAnswer, partStore}
 use Rattle.machine.proofs.steps.Asked.{heard-there}
-use Rattle.machine.specs.turn.Kept.{firstRefusal}
-use Rattle.machine.proofs.turn.Laws.{first-done, first-refuses}
+use Rattle.machine.specs.combined.Kept.{firstRefusal}
+use Rattle.machine.proofs.combined.Laws.{first-done, first-refuses}
 use Rattle.group.specs.Places.{place}
 use Rattle.group.specs.Group.{Group, partAt}
 use Rattle.group.proofs.Parts.{own-part}

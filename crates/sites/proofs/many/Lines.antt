@@ -20,7 +20,7 @@ use Rattle.script.specs.declared.Parsed.the-variants.{Malformed, Good}
 use Rattle.sites.specs.one.Calls.{tableFrom}
 use Rattle.group.specs.Group.{isNumber}
 use Rattle.sites.specs.many.Memory.{Memory, memory, Lent, lent, groupTooShort, groupIn}
-use Rattle.sites.specs.many.Calls.{rowCountFits, rowsAnswer, afterRows, groupRows, tallyLoaded, rowsTold, groupLineAnswer}
+use Rattle.sites.specs.many.Calls.{rowCountFits, rowsAnswer, afterRows, groupRows, tallyLoaded, rowsTallied, groupLineAnswer}
 use Rattle.sites.specs.many.Calls.{groupLineTallied, afterLine}
 use Rattle.sites.specs.many.Calls.{areaAfterLine, reportAfterLine, groupAfterLine}
 use Rattle.sites.proofs.many.Groups.{EventIs, LoadIs}
@@ -73,7 +73,7 @@ module _ (m : Memory) (a : ℕ) (f : Config) (rows : List ℕ) (D : ℕ) (ws : L
 
   -- with the tally of the number
   pub rows-told : (t : Tally) {r : ℕ} {y : Tally} → r ≡ number (rowsAnswer m a f rows D ws) → y ≡ cond (eqb r 0) firstTally t
-      → record { code = r; tally = y } ≡ rowsTold m a f rows D ws t
+      → record { code = r; tally = y } ≡ rowsTallied m a f rows D ws t
   unfolding tallyLoaded
   rows-told t {r} h k = λ i. record { code = h i; tally = (k ∙ ap (λ (n : ℕ). cond (eqb n 0) firstTally t) h) i }
 

@@ -23,10 +23,10 @@ use Rattle.machine.specs.declared.Day.{Day}
 use Rattle.tally.specs.Counting.{firstTally}
 use Rattle.tally.specs.Ends.{talliedAnswer}
 use Rattle.tally.specs.declared.Tally.{Tally}
-use Rattle.machine.specs.turn.Kept.{firstRefusal, keptAnswer}
-use Rattle.machine.specs.turn.Stored.{lentTooShort as tooShort, stepAnswer}
-use Rattle.machine.proofs.turn.Laws.{first-refuses}
-use Rattle.machine.proofs.turn.Seen.{same-seen}
+use Rattle.machine.specs.combined.Kept.{firstRefusal, keptAnswer}
+use Rattle.machine.specs.combined.Stored.{lentTooShort as tooShort, stepAnswer}
+use Rattle.machine.proofs.combined.Laws.{first-refuses}
+use Rattle.machine.proofs.combined.Seen.{same-seen}
 use Rattle.sites.specs.one.Calls.{tableFrom}
 use Rattle.script.specs.declared.Parsed.{Parsed}
 use Rattle.script.specs.declared.Parsed.the-variants.{Malformed, Good}
@@ -38,8 +38,8 @@ use Rattle.sites.specs.many.Calls.{eventCall, ownAreaIn, siteStepAnswer,
 use Rattle.sites.specs.many.Calls.{groupTallyAfter, reportAfter}
 use Rattle.sites.specs.many.Calls.{groupAfter, groupLoadAnswer, afterLoad, groupLoaded, rowCountFits, rowsAnswer, afterRows}
 use Rattle.sites.specs.many.Calls.{groupRows}
-use Rattle.sites.specs.many.Calls.{tallyLoaded, rowsTold, groupLineAnswer, groupLineTallied, afterLine, areaAfterLine, tallyAfterLine}
-use Rattle.sites.specs.many.Calls.{reportAfterLine, groupAfterLine}
+use Rattle.sites.specs.many.Calls.{tallyLoaded, rowsTallied, groupLineAnswer, groupLineTallied, afterLine, areaAfterLine}
+use Rattle.sites.specs.many.Calls.{tallyAfterLine, reportAfterLine, groupAfterLine}
 
 -- what comes first refuses
 front-refuses : (a b : Answer) → isDone a ≡ false → firstRefusal a b ≡ a
@@ -219,6 +219,6 @@ module _ (m : Memory) (a : ℕ) (f : Config) (rows : List ℕ) (D : ℕ) (ws : L
           go true = ap (λ (b : Bool). b && true) wrong-done
           go false = refl
 
-  pub rows-told-same : (t : Tally) → rowsTold m a f rows D copy t ≡ rowsTold m a f rows D ws t
+  pub rows-told-same : (t : Tally) → rowsTallied m a f rows D copy t ≡ rowsTallied m a f rows D ws t
   unfolding tallyLoaded
   rows-told-same t = ap (λ (z : Answer). record { code = number z; tally = cond (isDone z) firstTally t }) rows-answer

@@ -14,7 +14,7 @@ use Rattle.machine.proofs.Tail.{tail-members}
 use Rattle.machine.specs.timed.Stored.{timedIn}
 use Rattle.machine.specs.declared.Day.{Day}
 use Rattle.tally.specs.declared.Tally.{Tally}
-use Rattle.machine.specs.turn.Stored.{keptIn}
+use Rattle.machine.specs.combined.Stored.{keptIn}
 use Rattle.sites.specs.one.Memory.{atDay, atEpoch, memorySize, dayIn, dayPut, withDay, timedOf, keptOf}
 
 -- the day that stands there, written again, changes nothing

@@ -43,10 +43,10 @@ use Rattle.machine.specs.declared.DayAnswer.{DayAnswer}
 use Rattle.machine.proofs.timed.Stored.{as-begun}
 use Rattle.tally.specs.Counting.{firstTally}
 use Rattle.tally.specs.declared.Tally.{Tally}
-use Rattle.machine.specs.turn.Kept.{Kept}
-use Rattle.machine.specs.turn.Stored.{lentTooShort, stepAnswer, stepAccepted, stepStore, stepKept}
+use Rattle.machine.specs.combined.Kept.{Kept}
+use Rattle.machine.specs.combined.Stored.{lentTooShort, stepAnswer, stepAccepted, stepStore, stepKept}
 use Rattle.machine.specs.declared.StepResult.{StepResult}
-use Rattle.machine.proofs.turn.Laws.{StepIs, kept-refused, store-refused}
+use Rattle.machine.proofs.combined.Laws.{StepIs, kept-refused, store-refused}
 use Rattle.script.specs.declared.Parsed.{Parsed}
 use Rattle.script.specs.declared.Parsed.the-variants.{Malformed, Good}
 use Rattle.sites.specs.one.Memory.{memorySize, memoryTooShort, dayIn, dayPut, withDay, timedOf, keptOf}

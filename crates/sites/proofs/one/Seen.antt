@@ -20,8 +20,8 @@ use Rattle.machine.specs.timed.Timed.{timedLoadAnswer}
 use Rattle.machine.specs.declared.Day.{Day}
 use Rattle.tally.specs.Counting.{firstTally}
 use Rattle.tally.specs.declared.Tally.{Tally}
-use Rattle.machine.specs.turn.Kept.{Kept}
-use Rattle.machine.proofs.turn.Seen.{same-seen, answer-seen, store-seen, report-seen, kept-seen}
+use Rattle.machine.specs.combined.Kept.{Kept}
+use Rattle.machine.proofs.combined.Seen.{same-seen, answer-seen, store-seen, report-seen, kept-seen}
 use Rattle.script.specs.declared.Parsed.{Parsed}
 use Rattle.script.specs.declared.Parsed.the-variants.{Malformed, Good}
 use Rattle.sites.specs.one.Memory.{memoryTooShort, dayIn, withDay, timedOf, keptOf}

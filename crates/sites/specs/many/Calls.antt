@@ -21,8 +21,8 @@ use Rattle.machine.specs.timed.Timed.{firstEpoch, timedLoadAnswer}
 use Rattle.machine.specs.timed.Stored.{timedIn, timedLoadedStore}
 use Rattle.tally.specs.Counting.{firstTally}
 use Rattle.tally.specs.declared.Tally.{Tally}
-use Rattle.machine.specs.turn.Kept.{Kept, firstRefusal}
-use Rattle.machine.specs.turn.Stored.{reportTooShort, stepAnswer, stepStore, stepReport, stepKept}
+use Rattle.machine.specs.combined.Kept.{Kept, firstRefusal}
+use Rattle.machine.specs.combined.Stored.{reportTooShort, stepAnswer, stepStore, stepReport, stepKept}
 use Rattle.script.specs.declared.Parsed.{Parsed}
 use Rattle.script.specs.declared.Parsed.the-variants.{Malformed, Good}
 use Rattle.sites.specs.one.Calls.{tableFrom, showing, outNode}
@@ -137,8 +137,8 @@ groupRows m area a f rows D ws = cond (rowCountFits f rows) (groupLoaded m area 
 unfoldable pub tallyLoaded : Memory → ℕ → Config → List ℕ → ℕ → List Window → Tally → Tally
 tallyLoaded m a f rows D ws t = cond (isDone (rowsAnswer m a f rows D ws)) firstTally t
 
-abbrev pub rowsTold : Memory → ℕ → Config → List ℕ → ℕ → List Window → Tally → Tallied
-rowsTold m a f rows D ws t = record { code = number (rowsAnswer m a f rows D ws); tally = tallyLoaded m a f rows D ws t }
+abbrev pub rowsTallied : Memory → ℕ → Config → List ℕ → ℕ → List Window → Tally → Tallied
+rowsTallied m a f rows D ws t = record { code = number (rowsAnswer m a f rows D ws); tally = tallyLoaded m a f rows D ws t }
 
 -- An event made of three numbers, as a script's line has them: what is said of the number, then 15, then 2 for numbers that make none
 abbrev pub groupLineAnswer : Memory → List ℕ → ℕ → Lent → Parsed → Answer

@@ -31,8 +31,8 @@ use Rattle.windows.specs.declared.Window.{Window}
 use Rattle.machine.specs.timed.Timed.{Timed, firstEpoch}
 use Rattle.machine.specs.timed.Stored.{timedIn, storedLoadAnswer, timedLoadedStore}
 use Rattle.machine.specs.declared.Day.{Day}
-use Rattle.machine.specs.turn.Kept.{Kept, firstRefusal}
-use Rattle.machine.specs.turn.Stored.{stepAnswer, stepStore, stepReport, stepKept}
+use Rattle.machine.specs.combined.Kept.{Kept, firstRefusal}
+use Rattle.machine.specs.combined.Stored.{stepAnswer, stepStore, stepReport, stepKept}
 use Rattle.machine.specs.declared.StepResult.{StepResult}
 use Rattle.group.specs.Places.{entry, place, placeFilled, freed}
 use Rattle.group.specs.Group.{Group, ownShare, commonShare, beyond, ownArea}
@@ -54,15 +54,15 @@ isHear (Crash j) = false
 isHear (Restart j flags) = false
 
 -- an event as a group looks at it: a send, a hear, or neither
-abbrev pub partOf : Event → Part
-partOf (Send j) = Sends j
-partOf (Hear j p) = Hears j p
-partOf Close = Neither
-partOf (Take j i) = Neither
-partOf End = Neither
-partOf (Want j d) = Neither
-partOf (Crash j) = Neither
-partOf (Restart j flags) = Neither
+abbrev pub eventPart : Event → Part
+eventPart (Send j) = Sends j
+eventPart (Hear j p) = Hears j p
+eventPart Close = Neither
+eventPart (Take j i) = Neither
+eventPart End = Neither
+eventPart (Want j d) = Neither
+eventPart (Crash j) = Neither
+eventPart (Restart j flags) = Neither
 
 -- a site by itself: its storage and day, its number, the places and the area
 pub record OneSite : Type 0 where
@@ -116,8 +116,9 @@ stepResultBy x full v e =
       tally = cond (takenBy x full v e) (keptBy x v e .tally) (v .tally);
     }
 
-unfoldable pub storeBy : OneSite → Bool → Lent → Event → Store
-storeBy x full v e = cond (takenBy x full v e) (stepStore (x .store) (x .day) (ownAreaOf x) (v .windows) (v .tally) (v .out) e) (x .store)
+unfoldable pub lentStoreBy : OneSite → Bool → Lent → Event → Store
+lentStoreBy x full v e =
+    cond (takenBy x full v e) (stepStore (x .store) (x .day) (ownAreaOf x) (v .windows) (v .tally) (v .out) e) (x .store)
 
 -- the site that the storage stands for then
 unfoldable pub siteBy : OneSite → Bool → Lent → Event → Site
@@ -185,7 +186,7 @@ loneIn m area i a = oneSite (storeAt m i) (dayAt (m .table) i) a (placesIn (m .t
 unfoldable pub memoryBy : Memory → List ℕ → ℕ → ℕ → Lent → Event → Memory
 memoryBy m area i a v e =
     let x = loneIn m area i a in
-    let s = storeBy x (commonFull m e) v e in
+    let s = lentStoreBy x (commonFull m e) v e in
     memory (storeWords m i s) (storeBytes m i s)
     (tableWith (m .table) (placesBy x (commonFull m e) v e) i (stepResultBy x (commonFull m e) v e .day))
 

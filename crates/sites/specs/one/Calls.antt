@@ -27,8 +27,8 @@ use Rattle.machine.specs.timed.Timed.{Timed, firstEpoch, timedLoadAnswer, loade
 use Rattle.machine.specs.timed.Stored.{timedLoadedStore}
 use Rattle.tally.specs.Counting.{firstTally}
 use Rattle.tally.specs.declared.Tally.{Tally}
-use Rattle.machine.specs.turn.Kept.{Kept}
-use Rattle.machine.specs.turn.Stored.{lentTooShort, stepAnswer, stepStore, stepReport, stepKept}
+use Rattle.machine.specs.combined.Kept.{Kept}
+use Rattle.machine.specs.combined.Stored.{lentTooShort, stepAnswer, stepStore, stepReport, stepKept}
 use Rattle.script.specs.declared.Parsed.{Parsed}
 use Rattle.script.specs.declared.Parsed.the-variants.{Malformed, Good}
 use Rattle.sites.specs.one.Memory.{memoryTooShort, dayIn, withDay, timedOf, keptOf}

@@ -10,8 +10,8 @@ use Rattle.machine.specs.timed.Stored.{timedIn}
 use Rattle.machine.specs.timed.Timed.{Timed}
 use Rattle.machine.specs.declared.Day.{Day}
 use Rattle.tally.specs.declared.Tally.{Tally}
-use Rattle.machine.specs.turn.Kept.{Kept}
-use Rattle.machine.specs.turn.Stored.{keptIn}
+use Rattle.machine.specs.combined.Kept.{Kept}
+use Rattle.machine.specs.combined.Stored.{keptIn}
 
 -- where the epochs of the day stand, and which of them it is; how many words that makes
 abbrev pub atDay : ℕ

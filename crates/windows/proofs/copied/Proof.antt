@@ -62,7 +62,7 @@ use denote.Triple.Table.{entered, cited}
 use denote.Triple.Walked.{says, Stays, stay-none-slice, walkOf, Walks, ends-at, walked, goes-none-slice, walk-meets}
 use denote.Exit.{yes}
 use Rattle.windows.specs.Windows.{noWindow}
-use Rattle.windows.specs.Copies.{wordsWith, wordsFrom, wordsOf, copyOf}
+use Rattle.windows.specs.Copies.{wordsWith, wordsFrom, windowsOf, copyOf}
 use Rattle.windows.specs.declared.Window.{Window}
 use Rattle.windows.specs.declared.Windows.{Windows}
 use Rattle.windows.proofs.Window as T
@@ -159,12 +159,12 @@ next ys t m z h e = record {
 }
 
 -- all windows are read
-ended : (ys : List Window) (t : State ys) → length ys ≤ t .i → wordsOf (t .i) (t .l) ≡ copyOf ys
+ended : (ys : List Window) (t : State ys) → length ys ≤ t .i → windowsOf (t .i) (t .l) ≡ copyOf ys
 ended ys t m =
     let n : t .i ≡ length ys = omega (arith, m, t .upto) in
     let z : t .l ≡ wordsFrom (replicate 260 0) 0 ys =
     sym (ap (λ (zs : List Window). wordsFrom (t .l) (t .i) zs) (drop-of-length-le ys m)) ∙ t .sofar in
-    ap (λ (x : ℕ). wordsOf x (t .l)) n ∙ ap (λ (x : List ℕ). wordsOf (length ys) x) z
+    ap (λ (x : ℕ). windowsOf x (t .l)) n ∙ ap (λ (x : List ℕ). windowsOf (length ys) x) z
 
 -- the contracts that the proof cites
 abbrev Empty : {M : Type 1} (𝓤 : URA M) (H : Heap 𝓤) (A : Atoms 𝓤) (mem : Memory → SProp 𝓤) (run : Routine → Fun 𝓤) → Contract 𝓤
@@ -263,8 +263,8 @@ module _ {M : Type 1} (𝓤 : URA M) (H : Heap 𝓤) (A : Atoms 𝓤) (W : Given
       move ! (1 ∷ 0 ∷ []) $ frame ! $ done !
 
   of-so : (i : ℕ) (l : List ℕ) (r : Windows) → ent 𝓤 (ensured 𝓤 H A g.ended (g.clauses 𝓤 H A at-mem run) tt (i, (l, tt)) tt r)
-      (fact 𝓤 (r ≡ wordsOf i l))
-  of-so i l r = exE 𝓤 _ (λ ws. snd∗ 𝓤 (sem 𝓤 H A (lasts g.ended tt (i, (l, tt)) ws)) (fact 𝓤 (r ≡ wordsOf i l)))
+      (fact 𝓤 (r ≡ windowsOf i l))
+  of-so i l r = exE 𝓤 _ (λ ws. snd∗ 𝓤 (sem 𝓤 H A (lasts g.ended tt (i, (l, tt)) ws)) (fact 𝓤 (r ≡ windowsOf i l)))
 
   module _ (κ : Lft) (q : Share) (b o : ℕ) (γ : GName) (ys : List Window) (gn : Room T.the-row (length ys)) where
     abbrev x : RefT (List Window) × Unit {0}
@@ -412,8 +412,8 @@ module _ {M : Type 1} (𝓤 : URA M) (H : Heap 𝓤) (A : Atoms 𝓤) (W : Given
           (λ u.
           use1 W (later (some (λ (r : Windows). (‵ ftrue ⊛ ‵ (S.the-row .own r (u ∷ []))) ⊛ raw
           (ensured 𝓤 H A g.ended (g.clauses 𝓤 H A at-mem run) tt (t .i, (t .l, tt)) tt r)))) (id⊢ 𝓤 _) $ await ! tt $ pick ! (λ r.
-          split ! $ move ! (1 ∷ []) $ use1 W (raw (fact 𝓤 (r ≡ wordsOf (t .i) (t .l)))) (of-so (t .i) (t .l) r) $ heard !
-          (r ≡ wordsOf (t .i) (t .l)) (λ e. split ! $ drop ! $
+          split ! $ move ! (1 ∷ []) $ use1 W (raw (fact 𝓤 (r ≡ windowsOf (t .i) (t .l)))) (of-so (t .i) (t .l) r) $ heard !
+          (r ≡ windowsOf (t .i) (t .l)) (λ e. split ! $ drop ! $
           peeks ! S.the-row (Is S.the-row) (shows 𝓤 H A S.the-row) r (u ∷ []) (λ ir.
           land ! (from ! (stop !)) (init ! 32 refl (LL.lawful S.the-type S′.the-laws 𝓤 H A W .typed r _ ir .0)) $ drop ! $
           move ! (1 ∷ 2 ∷ []) $ shuts-slice ! tt T.the-row q′ ys b o $

@@ -1,7 +1,7 @@
 -- `windows::look` meets its contract: a walk of its MIR with one loop. The shared borrow is looked into once, before the loop, and shut
 -- once, after it; in between the whole row of records is had at some share, and each turn takes two out, one after the other, and puts them
 -- back.
--- All that the proof knows of `begun`, `turn` and `told` is that each meets its contract.
+-- All that the proof knows of `begun`, `turn` and `outcome` is that each meets its contract.
 -- Assumes nothing.
 use mathlib.Core.Path.{_≡_, refl, sym, ap, _∙_, subst}
 use Prim.Native.Nat.{ℕ, _*_, _<_, _≤_, _^_}
@@ -53,7 +53,7 @@ use denote.Triple.Walked.{says, Stays, stay-none-slice, stay-none, walkOf, AllGo
 use denote.Triple.Walked.{walk-meets}
 use denote.Exit.{yes}
 use Rattle.windows.specs.Windows.{noWindow, windowAt, lookedOf}
-use Rattle.windows.specs.Inner.{begunOf, turnOf, toldOf}
+use Rattle.windows.specs.Inner.{begunOf, turnOf, outcomeOf}
 use Rattle.windows.specs.declared.Window.{Window}
 use Rattle.windows.specs.declared.Looked.{Looked}
 use Rattle.windows.specs.declared.Seen.{Seen}
@@ -72,10 +72,10 @@ use Rattle.windows.proofs.turn as g₂
 use Rattle.windows.proofs.turn.Symbol as g₂-def
 use Rattle.windows.proofs.turn.Symbol.{name as #windows·turn}
 use Rattle.windows.proofs.turn.Met as g₂-thm
-use Rattle.windows.proofs.told as g₃
-use Rattle.windows.proofs.told.Symbol as g₃-def
-use Rattle.windows.proofs.told.Symbol.{name as #windows·told}
-use Rattle.windows.proofs.told.Met as g₃-thm
+use Rattle.windows.proofs.outcome as g₃
+use Rattle.windows.proofs.outcome.Symbol as g₃-def
+use Rattle.windows.proofs.outcome.Symbol.{name as #windows·outcome}
+use Rattle.windows.proofs.outcome.Met as g₃-thm
 use Rattle.windows.proofs.look.Key.{name as #windows·look}
 use Rattle.windows.proofs.look as f
 use Rattle.windows.proofs.look.Statement as stated
@@ -153,8 +153,8 @@ Begun 𝓤 H A mem run = tripleOf 𝓤 H A g₁.signature (g₁.spec 𝓤 H A me
 abbrev Turn : {M : Type 1} (𝓤 : URA M) (H : Heap 𝓤) (A : Atoms 𝓤) (mem : Memory → SProp 𝓤) (run : Routine → Fun 𝓤) → Contract 𝓤
 Turn 𝓤 H A mem run = tripleOf 𝓤 H A g₂.signature (g₂.spec 𝓤 H A mem run)
 
-abbrev NodeReport : {M : Type 1} (𝓤 : URA M) (H : Heap 𝓤) (A : Atoms 𝓤) (mem : Memory → SProp 𝓤) (run : Routine → Fun 𝓤) → Contract 𝓤
-NodeReport 𝓤 H A mem run = tripleOf 𝓤 H A g₃.signature (g₃.spec 𝓤 H A mem run)
+abbrev Outcome : {M : Type 1} (𝓤 : URA M) (H : Heap 𝓤) (A : Atoms 𝓤) (mem : Memory → SProp 𝓤) (run : Routine → Fun 𝓤) → Contract 𝓤
+Outcome 𝓤 H A mem run = tripleOf 𝓤 H A g₃.signature (g₃.spec 𝓤 H A mem run)
 
 module _ {M : Type 1} (𝓤 : URA M) (H : Heap 𝓤) (A : Atoms 𝓤) (W : Given 𝓤 H A) (mem : Memory → SProp 𝓤) (run : Routine → Fun 𝓤)
     (n-nodes : ℕ) (fits-nodes : n-nodes < 2 ^ 32) (n-day : ℕ) (fits-day : n-day < 2 ^ 32) (n-node : ℕ) (fits-node : n-node < 2 ^ 32)
@@ -208,21 +208,21 @@ module _ {M : Type 1} (𝓤 : URA M) (H : Heap 𝓤) (A : Atoms 𝓤) (W : Given
   said-turn s v w r = exE 𝓤 _ (λ ws. snd∗ 𝓤 (sem 𝓤 H A (lasts g₂.ended tt (args-turn s v w) ws))
       (fact 𝓤 (r ≡ turnOf n-nodes n-day n-node n-epoch s v w)))
 
-  abbrev args-told : Seen → Seen × (ℕ × Unit {0})
-  args-told s = (s, (n-demand, tt))
+  abbrev args-outcome : Seen → Seen × (ℕ × Unit {0})
+  args-outcome s = (s, (n-demand, tt))
 
-  abbrev to-told : Seen → NodeReport 𝓤 H A mem run .Ghost
-  to-told s = ((tt, tt, tt, args-told s, (seen s, (vint w32 n-demand ∷ [], tt))), tt)
+  abbrev to-outcome : Seen → Outcome 𝓤 H A mem run .Ghost
+  to-outcome s = ((tt, tt, tt, args-outcome s, (seen s, (vint w32 n-demand ∷ [], tt))), tt)
 
-  goes-told : (s : Seen) → Is S.the-row s (seen s) → ent 𝓤 (emp 𝓤) (NodeReport 𝓤 H A mem run .pre (to-told s))
-  goes-told s is =
+  goes-outcome : (s : Seen) → Is S.the-row s (seen s) → ent 𝓤 (emp 𝓤) (Outcome 𝓤 H A mem run .pre (to-outcome s))
+  goes-outcome s is =
       qed W [] ∵ nothing ! $ owned ! u32 (Is u32) (uint-makes 𝓤 H A W w32) n-demand _ (refl, fits-demand) $ fjoin ! $
       owned ! S.the-row (Is S.the-row) (LL.makes S.the-type S′.the-plain 𝓤 H A) s _ is $ fjoin ! $ nothing ! $ join ! $ nothing ! $ move !
       (1 ∷ 0 ∷ []) $ frame ! $ done !
 
-  said-told : (s : Seen) (r : Looked) → ent 𝓤 (ensured 𝓤 H A g₃.ended (g₃.clauses 𝓤 H A mem run) tt (args-told s) tt r)
-      (fact 𝓤 (r ≡ toldOf s n-demand))
-  said-told s r = exE 𝓤 _ (λ ws. snd∗ 𝓤 (sem 𝓤 H A (lasts g₃.ended tt (args-told s) ws)) (fact 𝓤 (r ≡ toldOf s n-demand)))
+  said-outcome : (s : Seen) (r : Looked) → ent 𝓤 (ensured 𝓤 H A g₃.ended (g₃.clauses 𝓤 H A mem run) tt (args-outcome s) tt r)
+      (fact 𝓤 (r ≡ outcomeOf s n-demand))
+  said-outcome s r = exE 𝓤 _ (λ ws. snd∗ 𝓤 (sem 𝓤 H A (lasts g₃.ended tt (args-outcome s) ws)) (fact 𝓤 (r ≡ outcomeOf s n-demand)))
 
   module _ (κ : Lft) (q : Share) (b o : ℕ) (γ : GName) (ys : List Window) (gn : Room T.the-row (length ys)) where
     abbrev x-ws : RefT (List Window)
@@ -273,7 +273,7 @@ module _ {M : Type 1} (𝓤 : URA M) (H : Heap 𝓤) (A : Atoms 𝓤) (W : Given
     Near = Nearer n-nodes n-day ys n-node n-epoch n-demand
 
     module _ (𝓣 : Tables 𝓤 H) (known-turn : Triple 𝓤 (𝓣 .C #windows·turn) (Turn 𝓤 H A mem run))
-        (known-told : Triple 𝓤 (𝓣 .C #windows·told) (NodeReport 𝓤 H A mem run)) (q′ : Share)
+        (known-outcome : Triple 𝓤 (𝓣 .C #windows·outcome) (Outcome 𝓤 H A mem run)) (q′ : Share)
         (l₀ l₁ l₂ l₃ l₄ l₅ l₆ l₇ l₈ l₉ l₁₀ l₁₁ l₁₂ l₁₃ l₁₄ l₁₅ : ℕ) where
       abbrev En : Env 𝓤 H
       En = (L′.mir, l₀) ∷ (slice, l₁) ∷ (num, l₂) ∷ (num, l₃) ∷ (num, l₄) ∷ (num, l₅) ∷ (num, l₆) ∷ (S′.mir, l₇) ∷ (T′.mir, l₈) ∷
@@ -381,14 +381,14 @@ module _ {M : Type 1} (𝓤 : URA M) (H : Heap 𝓤) (A : Atoms 𝓤) (W : Given
           (init ! 15 refl (tt, tt)) $
           rewrite ! 15 (λ (y : Bool). ‵ (fat fullShare tyBool l₁₁ 0 (vbool y))) over refl $ leaves-loop !
           (load ! (from ! (stop !)) (look ! 15 refl)) $ exec ! (𝓣 .C) (𝓣 .Λ) En mir.t-4 (atRet En Post) $
-          use0 W (raw (NodeReport 𝓤 H A mem run .pre (to-told (t .s)))) (goes-told (t .s) (t .is)) $
-          calls-at ! (fmOf 𝓤 H (W .laws) 𝓣) (NodeReport 𝓤 H A mem run) known-told (to-told (t .s))
+          use0 W (raw (Outcome 𝓤 H A mem run .pre (to-outcome (t .s)))) (goes-outcome (t .s) (t .is)) $
+          calls-at ! (fmOf 𝓤 H (W .laws) 𝓣) (Outcome 𝓤 H A mem run) known-outcome (to-outcome (t .s))
           (and-then ! (load ! (from ! (stop !)) (look ! 24 refl)) (and-then ! (load ! (from ! (stop !)) (look ! 26 refl)) (no-more !)))
           (λ u.
           use1 W (later (some (λ (r : Looked). (‵ ftrue ⊛ ‵ (L.the-row .own r (u ∷ []))) ⊛ raw
-          (ensured 𝓤 H A g₃.ended (g₃.clauses 𝓤 H A mem run) tt (args-told (t .s)) tt r)))) (id⊢ 𝓤 _) $ await ! tt $ pick ! (λ r.
-          split ! $ move ! (1 ∷ []) $ use1 W (raw (fact 𝓤 (r ≡ toldOf (t .s) n-demand))) (said-told (t .s) r) $ heard !
-          (r ≡ toldOf (t .s) n-demand) (λ e. split ! $ drop ! $
+          (ensured 𝓤 H A g₃.ended (g₃.clauses 𝓤 H A mem run) tt (args-outcome (t .s)) tt r)))) (id⊢ 𝓤 _) $ await ! tt $ pick ! (λ r.
+          split ! $ move ! (1 ∷ []) $ use1 W (raw (fact 𝓤 (r ≡ outcomeOf (t .s) n-demand))) (said-outcome (t .s) r) $ heard !
+          (r ≡ outcomeOf (t .s) n-demand) (λ e. split ! $ drop ! $
           peeks ! L.the-row (Is L.the-row) (shows 𝓤 H A L.the-row) r (u ∷ []) (λ is.
           land ! (from ! (stop !)) (init ! 38 refl (LL.lawful L.the-type L′.the-laws 𝓤 H A W .typed r _ is .0)) $ drop ! $
           shuts-slice ! tt T.the-row q′ ys b o $
@@ -412,10 +412,10 @@ module _ {M : Type 1} (𝓤 : URA M) (H : Heap 𝓤) (A : Atoms 𝓤) (W : Given
       looped t = first ! $ blocks ! $ loops ! 𝓣 Near (Nearer-wf n-nodes n-day ys n-node n-epoch n-demand) At turns t
 
     walk : (𝓣 : Tables 𝓤 H) → Triple 𝓤 (𝓣 .C #windows·begun) (Begun 𝓤 H A mem run) → Triple 𝓤 (𝓣 .C #windows·turn) (Turn 𝓤 H A mem run)
-        → Triple 𝓤 (𝓣 .C #windows·told) (NodeReport 𝓤 H A mem run)
+        → Triple 𝓤 (𝓣 .C #windows·outcome) (Outcome 𝓤 H A mem run)
         → ent 𝓤 (onEntry 𝓤 H A f.signature (κ, tt) (q, tt) x at) (WpFn 𝓤 H (𝓣 .C) (𝓣 .Λ) code.function
         (s-ws ∷ vint w32 n-nodes ∷ vint w32 n-day ∷ vint w32 n-node ∷ vint w32 n-epoch ∷ vint w32 n-demand ∷ []) Post)
-    walk 𝓣 known-begun known-turn known-told =
+    walk 𝓣 known-begun known-turn known-outcome =
         qed W ((‵ (flft κ q) ⊛ ‵ ftrue) ∷ ‵ (owns (ShrSlice (named 0) κ T.the-row ∷ u32 ∷ u32 ∷ u32 ∷ u32 ∷ u32 ∷ []) x at) ∷ []) ∵
         split ! $ move ! (2 ∷ []) $ fsplit ! $ keep ! (2 ∷ 0 ∷ []) $
         enter ! (𝓣 .C) (𝓣 .Λ) code.function (s-ws ∷ vint w32 n-nodes ∷ vint w32 n-day ∷ vint w32 n-node ∷ vint w32 n-epoch ∷ vint w32
@@ -475,7 +475,7 @@ module _ {M : Type 1} (𝓤 : URA M) (H : Heap 𝓤) (A : Atoms 𝓤) (W : Given
         (3 ∷ 0 ∷ []) $
         looks-slice ! tt T.the-row (Is T.the-row) (shows 𝓤 H A T.the-row) vals (LL.tells T.the-type T′.the-laws)
         (LL.copy T.the-type T′.the-copy 𝓤 H A W) ys b o (λ q′.
-        looped 𝓣 known-turn known-told q′ l₀ l₁ l₂ l₃ l₄ l₅ l₆ l₇ l₈ l₉ l₁₀ l₁₁ l₁₂ l₁₃ l₁₄ l₁₅
+        looped 𝓣 known-turn known-outcome q′ l₀ l₁ l₂ l₃ l₄ l₅ l₆ l₇ l₈ l₉ l₁₀ l₁₁ l₁₂ l₁₃ l₁₄ l₁₅
         (record {
           s = r;
           is = subst (Is S.the-row r) (LL.tells S.the-type S′.the-laws r (u ∷ []) is) is;
@@ -485,7 +485,7 @@ module _ {M : Type 1} (𝓤 : URA M) (H : Heap 𝓤) (A : Atoms 𝓤) (W : Given
 module _ {M : Type 1} (𝓤 : URA M) (H : Heap 𝓤) (A : Atoms 𝓤) (W : Given 𝓤 H A) (mem : Memory → SProp 𝓤) (run : Routine → Fun 𝓤)
     (𝓣 : Tables 𝓤 H)
     (known-begun : Triple 𝓤 (𝓣 .C #windows·begun) (Begun 𝓤 H A mem run)) (known-turn : Triple 𝓤 (𝓣 .C #windows·turn) (Turn 𝓤 H A mem run))
-    (known-told : Triple 𝓤 (𝓣 .C #windows·told) (NodeReport 𝓤 H A mem run)) where
+    (known-outcome : Triple 𝓤 (𝓣 .C #windows·outcome) (Outcome 𝓤 H A mem run)) where
   walks : Walks 𝓤 H A f.ended stayed (WpFn 𝓤 H (𝓣 .C) (𝓣 .Λ) code.function) (f.clauses 𝓤 H A mem run)
   walks = walked 𝓤 H A f.ended stayed (f.clauses 𝓤 H A mem run) (WpFn 𝓤 H (𝓣 .C) (𝓣 .Λ) code.function)
       (λ κs. (slice-vals, (uint-vals w32, (uint-vals w32, (uint-vals w32, (uint-vals w32, (uint-vals w32, tt)))))))
@@ -498,7 +498,7 @@ module _ {M : Type 1} (𝓤 : URA M) (H : Heap 𝓤) (A : Atoms 𝓤) (W : Given
       ))
       (λ κs qs bounds a _ are. via 𝓤 _ (fst∗ 𝓤 _ (emp 𝓤)) (walk 𝓤 H A W mem run (a .1 .0) (are .1 .0 .1) (a .1 .1 .0) (are .1 .1 .0 .1)
       (a .1 .1 .1 .0) (are .1 .1 .1 .0 .1) (a .1 .1 .1 .1 .0) (are .1 .1 .1 .1 .0 .1) (a .1 .1 .1 .1 .1 .0) (are .1 .1 .1 .1 .1 .0 .1)
-      (κs .0) (qs .0) (a .0 .ptr .0) (a .0 .ptr .1) (a .0 .name) (a .0 .now) (are .0 .0 .1) 𝓣 known-begun known-turn known-told))
+      (κs .0) (qs .0) (a .0 .ptr .0) (a .0 .ptr .1) (a .0 .name) (a .0 .now) (are .0 .0 .1) 𝓣 known-begun known-turn known-outcome))
 
   goes : AllGo 𝓤 H A W 1 (f.signature .params) (f.ended .kept) stayed
   goes = (
@@ -531,5 +531,5 @@ look-spec 𝓤 H 𝓜 𝓖 𝓡 =
     (cited 𝓤 H (Begun 𝓤 H (𝓖 .A) (𝓜 .mem) (𝓡 .run)) 𝓜 𝓡 code.env #windows·begun g₁-def.routine code.calls-windows·begun
     (g₁-thm.met 𝓤 H 𝓜 𝓖 𝓡))
     (cited 𝓤 H (Turn 𝓤 H (𝓖 .A) (𝓜 .mem) (𝓡 .run)) 𝓜 𝓡 code.env #windows·turn g₂-def.routine code.calls-windows·turn (g₂-thm.met 𝓤 H 𝓜 𝓖 𝓡))
-    (cited 𝓤 H (NodeReport 𝓤 H (𝓖 .A) (𝓜 .mem) (𝓡 .run)) 𝓜 𝓡 code.env #windows·told g₃-def.routine code.calls-windows·told
+    (cited 𝓤 H (Outcome 𝓤 H (𝓖 .A) (𝓜 .mem) (𝓡 .run)) 𝓜 𝓡 code.env #windows·outcome g₃-def.routine code.calls-windows·outcome
     (g₃-thm.met 𝓤 H 𝓜 𝓖 𝓡)))

@@ -10,19 +10,19 @@ use borrow.Author.Tests.{le-leb, lt-leb, not-true, not-false}
 use Rattle.words.proofs.Tests.{hit, skip, both}
 use Rattle.lists.specs.Bytes.{bytes32, written, Tried}
 use Rattle.masks.specs.Bytes.{masksIn, hasRoom}
-use Rattle.masks.specs.Air.{ownersTo, told}
+use Rattle.masks.specs.Air.{ownersTo, ownersWritten}
 use Rattle.masks.proofs.Told.{length-told}
 use Rattle.allotment.specs.Allotment.{scheduleOf}
 use Rattle.allotment.proofs.Schedules.{owners-made}
 use Rattle.node.specs.Model.{Versioned}
-use Rattle.wire.specs.Layout.{scheduleSize, scheduleTold}
+use Rattle.wire.specs.Layout.{scheduleSize, scheduleWritten}
 use Rattle.wire.proofs.Writes.{schedule-so, front-so}
 use Rattle.wire.proofs.write_schedule.Statement.{statement}
 use Rattle.wire.proofs.write_schedule.Tie as tie
 
 -- both parts, where there is room for them
 tells : {i : ℕ} {m r : List ℕ} (version : ℕ) (l : List ℕ) (at n : ℕ) (out : List ℕ) → hasRoom l at ≡ true → scheduleSize ≤ length out
-    → length m ≡ length out → Tried out 0 (bytes32 version) i m → r ≡ told l at n m 4 → r ≡ scheduleTold version l at n out
+    → length m ≡ length out → Tried out 0 (bytes32 version) i m → r ≡ ownersWritten l at n m 4 → r ≡ scheduleWritten version l at n out
 tells {m = m} version l at n out a h e t u =
     let o = ownersTo (masksIn l at) n in
     let v : Versioned = record { version = version; schedule = scheduleOf o } in

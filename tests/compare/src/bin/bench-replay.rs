@@ -124,14 +124,16 @@ fn cases() -> Vec<Case> {
     cases
 }
 
-/// Runs the script once in the first implementation.
-fn first(case: &Case) -> impl FnMut() + '_ {
+type Replay = fn(&[u8], &mut [u8], &mut [u8], &mut u32, u32, &[Window]) -> u32;
+
+/// Runs the script once by a call that is lent area and output: the proved one or that in plain C.
+fn lent(case: &Case, replay: Replay) -> impl FnMut() + '_ {
     let mut area = vec![0; AREA_LENGTH];
     let mut output = vec![0; scripts::room(case.script.len())];
     move || {
         let mut length = 0;
         let script = black_box(case.script.as_slice());
-        let answer = calls::replay_day(
+        let answer = replay(
             script,
             &mut area,
             &mut output,
@@ -152,30 +154,15 @@ fn second(case: &Case) -> impl FnMut() + '_ {
     }
 }
 
-fn in_plain_c(case: &Case) -> impl FnMut() + '_ {
-    let mut area = vec![0; AREA_LENGTH];
-    let mut output = vec![0; scripts::room(case.script.len())];
-    move || {
-        let mut length = 0;
-        let script = black_box(case.script.as_slice());
-        let answer = plain::replay_day(
-            script,
-            &mut area,
-            &mut output,
-            &mut length,
-            case.day,
-            &case.windows,
-        );
-        assert_eq!(answer, 0);
-        black_box(&output);
-    }
-}
-
 fn print_case(case: &Case) {
     let events = scripts::events(&case.script);
     let [first, second, plain] = measure(
         1,
-        [&mut first(case), &mut second(case), &mut in_plain_c(case)],
+        [
+            &mut lent(case, calls::replay_day),
+            &mut second(case),
+            &mut lent(case, plain::replay_day),
+        ],
     );
     println!(
         "{:<40} {events:>6} {:>9.1} {:>9.1} {:>9.1} {:>8.2} {:>8.2}",
@@ -199,9 +186,9 @@ fn main() {
     );
     for case in cases().iter().filter(|case| case.name.contains(wanted)) {
         if once {
-            first(case)();
+            lent(case, calls::replay_day)();
             second(case)();
-            in_plain_c(case)();
+            lent(case, plain::replay_day)();
         } else {
             print_case(case);
         }

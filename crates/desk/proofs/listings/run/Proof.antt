@@ -1,5 +1,5 @@
--- What is printed of the lines read so far, with what is printed of those to come, is what all of them print; the site in storage is the one
--- after the lines so far.
+-- What is printed of the lines read so far, with what is printed of those to come, is what all of them print;
+-- the site in storage is the one after the lines so far.
 use mathlib.Core.Path.{_≡_, refl, sym, ap, _∙_}
 use mathlib.Core.Bool.{true}
 use Prim.Native.Nat.{_≤_, _-_, _+_}

@@ -33,7 +33,7 @@ returns c =
     let s = store (a .words .now) (a .bytes .now) in
     let x = runStateIn s (a .day) (a .area .now) in
     let e = c .before .enum-told .given .1 in (
-      (λ i. record { turned = record { answer = OutOfRange; day = a .day }; report = c .no-report .ensures i })
+      (λ i. record { step = record { answer = OutOfRange; day = a .day }; report = c .no-report .ensures i })
           ∙ sym (ap (lineTaken (a .v) (windowsIn (a .w .now)) s (a .day) (a .area .now)) e),
       (
         sym (ap (λ (p : Parsed). lineAfter (windowsIn (a .w .now)) x p .timed .site) e),
@@ -66,7 +66,7 @@ returns-2 c =
     let o = by-list s (a .day) (a .area .now) (windowsIn (a .w .now)) v (keeps s (a .day) (windowsIn (a .w .now)) v m (c21 .pre .2))
     (c6 .step-tested .ensures) in
     let t = as-timed s (a .day) (a .area .now) (windowsIn (a .w .now)) v m in (
-      (λ i. record { turned = (o .0 ∙ t .0) i; report = c10 .event-report .ensures i })
+      (λ i. record { step = (o .0 ∙ t .0) i; report = c10 .event-report .ensures i })
           ∙ sym (ap (lineTaken (a .v) (windowsIn (a .w .now)) s (a .day) (a .area .now)) e),
       (
         o .1 .1 .1 .0 ∙ t .1 .0 ∙ sym (ap (λ (p : Parsed). lineAfter (windowsIn (a .w .now)) x p .timed .site) e),

@@ -36,7 +36,7 @@ use Rattle.range.specs.Range.{inRange}
 use Rattle.area.proofs.Valid.{size-of, range-of}
 use Rattle.area.proofs.Canon.{lengths, round-trip}
 use Rattle.host.specs.Calls.{andThen, isNodeArea, roomAnswer, unlessRefused, output, closeRoom, groundSize, groundBytes, closedAnswer}
-use Rattle.host.specs.Calls.{closeBytes, closingOf, afterClose, outClose, toldClose}
+use Rattle.host.specs.Calls.{closeBytes, closingOf, afterClose, outClose, groundClose}
 use Rattle.host.proofs.Answers.{then-stands, no-node, is-node, core-is, refuses, steps, put-out}
 use Rattle.host.proofs.Stepped.{gone, told-is}
 use borrow.Author.Needs.{needs}
@@ -143,7 +143,7 @@ same-length : tie.Need-same-length
 same-length c = search needs
 
 returns : tie.Need-returns
-unfolding closingOf afterClose outClose toldClose
+unfolding closingOf afterClose outClose groundClose
 returns c =
     let d = c .before .before .before .before .before .before .before in
     let l = d .args .out .now in
@@ -164,7 +164,7 @@ same-length-2 : tie.Need-same-length-2
 same-length-2 c = search needs
 
 returns-2 : tie.Need-returns-2
-unfolding closingOf afterClose outClose toldClose
+unfolding closingOf afterClose outClose groundClose
 returns-2 c =
     let d = c .before .before .before .before .before .before .before .before .before .before .before .before in
     let a = d .args .area .now in
@@ -183,7 +183,7 @@ same-length-3 : tie.Need-same-length-3
 same-length-3 c = search needs
 
 returns-3 : tie.Need-returns-3
-unfolding closingOf afterClose outClose toldClose
+unfolding closingOf afterClose outClose groundClose
 returns-3 c =
     let d = c .before .before .before .before .before .before .before .before .before .before .before .before .before .before in
     let a = d .args .area .now in
@@ -206,7 +206,7 @@ same-length-5 : tie.Need-same-length-5
 same-length-5 c = search needs
 
 returns-4 : tie.Need-returns-4
-unfolding closingOf afterClose outClose toldClose
+unfolding closingOf afterClose outClose groundClose
 returns-4 c =
     let d = c .before .before .before .before .before .before .before .before .before .before .before .before .before .before .before
     .before .before in
@@ -254,7 +254,7 @@ same-length-8 : tie.Need-same-length-8
 same-length-8 c = search needs
 
 returns-5 : tie.Need-returns-5
-unfolding closingOf afterClose outClose toldClose
+unfolding closingOf afterClose outClose groundClose
 returns-5 c =
     let d = c .before .before .before .before .before .before .before .before .before .before .before .before .before .before .before
     .before .before .before .before .before .before .before .before .before .before .before .before .before .before .before .before in

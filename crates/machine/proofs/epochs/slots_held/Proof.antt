@@ -9,7 +9,7 @@ use Rattle.machine.specs.Layout.{store, siteIn}
 use Rattle.tally.specs.Claims.{heldBy}
 use Rattle.tally.specs.Ends.{schedulesOf}
 use borrow.Author.Needs.{needs}
-use Rattle.machine.proofs.turn.Held.{slots-read}
+use Rattle.machine.proofs.combined.Held.{slots-read}
 use Rattle.machine.proofs.epochs.slots_held.Statement.{statement}
 use Rattle.machine.proofs.epochs.slots_held.Tie as tie
 

@@ -1,15 +1,29 @@
 -- Each arm is its event's own contract, with the event known from the match; what an arm does not lend stays as it was.
-use mathlib.Core.Path.{sym, ap, _∙_}
-use Prim.Native.Nat.{_-_}
+use mathlib.Core.Path.{_≡_, refl, sym, ap, _∙_}
+use mathlib.Core.List.{List}
+use Prim.Native.Nat.{ℕ, _-_}
 use Rattle.machine.specs.Layout.{Store, store, siteIn}
 use Rattle.machine.proofs.Whole.{as-closed, as-ended}
 use Rattle.machine.specs.steps.After.{nextStore, sentStore, wantedStore}
+use Rattle.node.specs.declared.Answer.the-variants.{Done}
 use Rattle.site.specs.Answers.{eventAnswer}
 use Rattle.site.specs.Steps.{nextArea}
 use Rattle.site.specs.declared.Event.{Event}
 use borrow.Author.Needs.{needs}
 use Rattle.machine.proofs.events.apply.Statement.{statement}
 use Rattle.machine.proofs.events.apply.Tie as tie
+
+-- an arm knows which event it has: what is said of that event is said of the one lent
+module _ (s : Store) (area : List ℕ) {e x : Event} (q : e ≡ x) where
+  accepted : eventAnswer (siteIn s) area e ≡ Done → eventAnswer (siteIn s) area x ≡ Done
+  accepted h = sym (ap (eventAnswer (siteIn s) area) q) ∙ h
+
+  done : {w b l : List ℕ} → w ≡ nextStore s area x .words → b ≡ nextStore s area x .bytes → l ≡ nextArea (siteIn s) area x
+      → (w ≡ nextStore s area e .words) × ((b ≡ nextStore s area e .bytes) × (l ≡ nextArea (siteIn s) area e))
+  done h k m = (
+    h ∙ ap (λ (y : Event). nextStore s area y .words) (sym q),
+    (k ∙ ap (λ (y : Event). nextStore s area y .bytes) (sym q), m ∙ ap (λ (y : Event). nextArea (siteIn s) area y) (sym q)),
+  )
 
 enum-known-e : tie.Need-enum-known-e
 enum-known-e c = search needs
@@ -20,7 +34,7 @@ send-requires c κs =
     let c9 = c4 .before .before .before .before .before in
     let d = c9 in
     let s = store (d .args .words .now) (d .args .bytes .now) in
-    (d .pre .0, d .pre .1, sym (ap (eventAnswer (siteIn s) (d .args .area .now)) (c4 .e .given .1)) ∙ d .pre .2)
+    (d .pre .0, d .pre .1, accepted s (d .args .area .now) (c4 .e .given .1) (d .pre .2))
 
 enum-known-e-2 : tie.Need-enum-known-e-2
 enum-known-e-2 c = search needs
@@ -31,7 +45,7 @@ hear-requires c κs =
     let c9 = c4 .before .before .before .before .before in
     let d = c9 in
     let s = store (d .args .words .now) (d .args .bytes .now) in
-    (d .pre .0, d .pre .1, sym (ap (eventAnswer (siteIn s) (d .args .area .now)) (c4 .e2 .given .1)) ∙ d .pre .2)
+    (d .pre .0, d .pre .1, accepted s (d .args .area .now) (c4 .e2 .given .1) (d .pre .2))
 
 enum-told : tie.Need-enum-told
 enum-told c = search needs
@@ -47,7 +61,7 @@ take-requires c κs =
     let c8 = c .before .before .before .before .before .before .before .before in
     let d = c8 in
     let s = store (d .args .words .now) (d .args .bytes .now) in
-    (d .pre .0, d .pre .1, sym (ap (eventAnswer (siteIn s) (d .args .area .now)) (c .before .before .before .e3 .given .1)) ∙ d .pre .2)
+    (d .pre .0, d .pre .1, accepted s (d .args .area .now) (c .before .before .before .e3 .given .1) (d .pre .2))
 
 enum-told-2 : tie.Need-enum-told-2
 enum-told-2 c = search needs
@@ -63,7 +77,7 @@ want-requires c κs =
     let c8 = c .before .before .before .before .before .before .before .before in
     let d = c8 in
     let s = store (d .args .words .now) (d .args .bytes .now) in
-    (d .pre .0, d .pre .1, sym (ap (eventAnswer (siteIn s) (d .args .area .now)) (c .before .before .before .e4 .given .1)) ∙ d .pre .2)
+    (d .pre .0, d .pre .1, accepted s (d .args .area .now) (c .before .before .before .e4 .given .1) (d .pre .2))
 
 enum-known-e-5 : tie.Need-enum-known-e-5
 enum-known-e-5 c = search needs
@@ -73,7 +87,7 @@ crash-requires c κs =
     let c8 = c .before .before .before .before .before .before .before .before in
     let d = c8 in
     let s = store (d .args .words .now) (d .args .bytes .now) in
-    (d .pre .0, d .pre .1, sym (ap (eventAnswer (siteIn s) (d .args .area .now)) (c .before .before .before .e5 .given .1)) ∙ d .pre .2)
+    (d .pre .0, d .pre .1, accepted s (d .args .area .now) (c .before .before .before .e5 .given .1) (d .pre .2))
 
 enum-known-e-6 : tie.Need-enum-known-e-6
 enum-known-e-6 c = search needs
@@ -83,7 +97,7 @@ restart-requires c κs =
     let c8 = c .before .before .before .before .before .before .before .before in
     let d = c8 in
     let s = store (d .args .words .now) (d .args .bytes .now) in
-    (d .pre .0, d .pre .1, sym (ap (eventAnswer (siteIn s) (d .args .area .now)) (c .before .before .before .e6 .given .1)) ∙ d .pre .2)
+    (d .pre .0, d .pre .1, accepted s (d .args .area .now) (c .before .before .before .e6 .given .1) (d .pre .2))
 
 same-length : tie.Need-same-length
 same-length c = search needs
@@ -102,11 +116,7 @@ returns c =
     let c14 = c9 .before .before .before .before .before in
     let d = c14 in
     let s = store (d .args .words .now) (d .args .bytes .now) in
-    let q = sym (c9 .e .given .1) in
-    let w = ap (λ (x : Event). nextStore s (d .args .area .now) x .words) q in
-    let y = ap (λ (x : Event). nextStore s (d .args .area .now) x .bytes) q in
-    let z = ap (λ (x : Event). nextArea (siteIn s) (d .args .area .now) x) q in
-    (w, (c4 .send .ensures .0 ∙ y, c4 .send .ensures .1 ∙ z))
+    done s (d .args .area .now) (c9 .e .given .1) refl (c4 .send .ensures .0) (c4 .send .ensures .1)
 
 same-length-4 : tie.Need-same-length-4
 same-length-4 c = search needs
@@ -124,11 +134,7 @@ returns-2 c =
     let c14 = c9 .before .before .before .before .before in
     let d = c14 in
     let s = store (d .args .words .now) (d .args .bytes .now) in
-    let q = sym (c9 .e2 .given .1) in
-    let w = ap (λ (x : Event). nextStore s (d .args .area .now) x .words) q in
-    let y = ap (λ (x : Event). nextStore s (d .args .area .now) x .bytes) q in
-    let z = ap (λ (x : Event). nextArea (siteIn s) (d .args .area .now) x) q in
-    (c4 .hear .ensures .0 ∙ w, (c4 .hear .ensures .1 ∙ y, z))
+    done s (d .args .area .now) (c9 .e2 .given .1) (c4 .hear .ensures .0) (c4 .hear .ensures .1) refl
 
 same-length-7 : tie.Need-same-length-7
 same-length-7 c = search needs
@@ -143,12 +149,9 @@ returns-3 c =
     let c12 = c7 .before .before .before .before .before in
     let d = c12 in
     let s = store (d .args .words .now) (d .args .bytes .now) in
-    let q = sym (c7 .enum-told .given .1) in
-    let w = ap (λ (x : Event). nextStore s (d .args .area .now) x .words) q in
-    let y = ap (λ (x : Event). nextStore s (d .args .area .now) x .bytes) q in
-    let z = ap (λ (x : Event). nextArea (siteIn s) (d .args .area .now) x) q in
     let h = as-closed s (d .pre .0) (d .pre .1) in
-    (c4 .close .ensures .0 ∙ ap (λ (x : Store). x .words) h ∙ w, (c4 .close .ensures .1 ∙ ap (λ (x : Store). x .bytes) h ∙ y, z))
+    done s (d .args .area .now) (c7 .enum-told .given .1) (c4 .close .ensures .0 ∙ ap (λ (x : Store). x .words) h)
+    (c4 .close .ensures .1 ∙ ap (λ (x : Store). x .bytes) h) refl
 
 same-length-9 : tie.Need-same-length-9
 same-length-9 c = search needs
@@ -163,11 +166,7 @@ returns-4 c =
     let c13 = c8 .before .before .before .before .before in
     let d = c13 in
     let s = store (d .args .words .now) (d .args .bytes .now) in
-    let q = sym (c8 .e3 .given .1) in
-    let w = ap (λ (x : Event). nextStore s (d .args .area .now) x .words) q in
-    let y = ap (λ (x : Event). nextStore s (d .args .area .now) x .bytes) q in
-    let z = ap (λ (x : Event). nextArea (siteIn s) (d .args .area .now) x) q in
-    (c4 .take .ensures .0 ∙ w, (c4 .take .ensures .1 ∙ y, z))
+    done s (d .args .area .now) (c8 .e3 .given .1) (c4 .take .ensures .0) (c4 .take .ensures .1) refl
 
 same-length-11 : tie.Need-same-length-11
 same-length-11 c = search needs
@@ -182,12 +181,9 @@ returns-5 c =
     let c12 = c7 .before .before .before .before .before in
     let d = c12 in
     let s = store (d .args .words .now) (d .args .bytes .now) in
-    let q = sym (c7 .enum-told2 .given .1) in
-    let w = ap (λ (x : Event). nextStore s (d .args .area .now) x .words) q in
-    let y = ap (λ (x : Event). nextStore s (d .args .area .now) x .bytes) q in
-    let z = ap (λ (x : Event). nextArea (siteIn s) (d .args .area .now) x) q in
     let h = as-ended s (d .pre .0) (d .pre .1) in
-    (c4 .end .ensures .0 ∙ ap (λ (x : Store). x .words) h ∙ w, (c4 .end .ensures .1 ∙ ap (λ (x : Store). x .bytes) h ∙ y, z))
+    done s (d .args .area .now) (c7 .enum-told2 .given .1) (c4 .end .ensures .0 ∙ ap (λ (x : Store). x .words) h)
+    (c4 .end .ensures .1 ∙ ap (λ (x : Store). x .bytes) h) refl
 
 same-length-13 : tie.Need-same-length-13
 same-length-13 c = search needs
@@ -201,11 +197,7 @@ returns-6 c =
     let c6 = c .before .before .before .before .before .before in
     let d = c6 .before .before .before .before .before in
     let s = store (d .args .words .now) (d .args .bytes .now) in
-    let q = sym (c6 .e4 .given .1) in
-    let w = ap (λ (x : Event). nextStore s (d .args .area .now) x .words) q in
-    let y = ap (λ (x : Event). nextStore s (d .args .area .now) x .bytes) q in
-    let z = ap (λ (x : Event). nextArea (siteIn s) (d .args .area .now) x) q in
-    (w, (c .before .before .want .ensures ∙ y, z))
+    done s (d .args .area .now) (c6 .e4 .given .1) refl (c .before .before .want .ensures) refl
 
 same-length-15 : tie.Need-same-length-15
 same-length-15 c = search needs
@@ -220,11 +212,7 @@ returns-7 c =
     let c13 = c8 .before .before .before .before .before in
     let d = c13 in
     let s = store (d .args .words .now) (d .args .bytes .now) in
-    let q = sym (c8 .e5 .given .1) in
-    let w = ap (λ (x : Event). nextStore s (d .args .area .now) x .words) q in
-    let y = ap (λ (x : Event). nextStore s (d .args .area .now) x .bytes) q in
-    let z = ap (λ (x : Event). nextArea (siteIn s) (d .args .area .now) x) q in
-    (c4 .crash .ensures .0 ∙ w, (c4 .crash .ensures .1 ∙ y, z))
+    done s (d .args .area .now) (c8 .e5 .given .1) (c4 .crash .ensures .0) (c4 .crash .ensures .1) refl
 
 same-length-17 : tie.Need-same-length-17
 same-length-17 c = search needs
@@ -239,11 +227,7 @@ returns-8 c =
     let c13 = c8 .before .before .before .before .before in
     let d = c13 in
     let s = store (d .args .words .now) (d .args .bytes .now) in
-    let q = sym (c8 .e6 .given .1) in
-    let w = ap (λ (x : Event). nextStore s (d .args .area .now) x .words) q in
-    let y = ap (λ (x : Event). nextStore s (d .args .area .now) x .bytes) q in
-    let z = ap (λ (x : Event). nextArea (siteIn s) (d .args .area .now) x) q in
-    (c4 .restart .ensures .0 ∙ w, (c4 .restart .ensures .1 ∙ y, z))
+    done s (d .args .area .now) (c8 .e6 .given .1) (c4 .restart .ensures .0) (c4 .restart .ensures .1) refl
 
 pub apply-spec : {M : Type 1} → statement M
 apply-spec =

@@ -6,7 +6,7 @@ use lib.ListN.{length}
 use Rattle.words.proofs.Tests.{hit, skip}
 use Rattle.masks.specs.Bytes.{masksSize}
 use Rattle.machine.specs.Layout.{store, configIn, schedulesAt}
-use Rattle.machine.specs.Loading.{ownersTold}
+use Rattle.machine.specs.Loading.{nodeOwnersWritten}
 use Rattle.machine.proofs.Owned.{told-as}
 use Rattle.machine.proofs.Seats.{at-node-index}
 use Rattle.machine.proofs.Whole.{at-place, schedule-read}
@@ -17,7 +17,7 @@ no-node-requires : tie.Need-no-node-requires
 no-node-requires c κs = search needs
 
 returns : tie.Need-returns
-unfolding ownersTold
+unfolding nodeOwnersWritten
 returns c = sym (hit _ _ _ (sym (c .before .no-node .ensures) ∙ c .if1 .taken))
 
 node-index-requires : tie.Need-node-index-requires
@@ -36,7 +36,7 @@ same-length : tie.Need-same-length
 same-length c = search needs
 
 returns-2 : tie.Need-returns-2
-unfolding ownersTold
+unfolding nodeOwnersWritten
 returns-2 c =
     let d = c .before .before .before .before in
     let a = d .before .before .before .before .before .before .args in

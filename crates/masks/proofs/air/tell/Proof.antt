@@ -13,13 +13,13 @@ use Rattle.words.proofs.Tests.{hit, skip, both}
 use Rattle.lists.specs.Bytes.{written}
 use Rattle.lists.proofs.Laws.{part-written}
 use Rattle.masks.specs.Bytes.{masksSize, masksIn, hasRoom}
-use Rattle.masks.specs.Air.{ownersTo, told}
+use Rattle.masks.specs.Air.{ownersTo, ownersWritten}
 use Rattle.masks.proofs.Told.{length-told, told-min}
 use Rattle.masks.proofs.air.tell.Statement.{statement}
 use Rattle.masks.proofs.air.tell.Tie as tie
 
 -- no room for the owners
-too-short : (l out : List ℕ) (at n to : ℕ) → length out < to + 80 → out ≡ told l at n out to
+too-short : (l out : List ℕ) (at n to : ℕ) → length out < to + 80 → out ≡ ownersWritten l at n out to
 too-short l out at n to h =
     sym (skip (hasRoom l at && leb (to + 80) (length out)) _ _ out
     (ap (λ (t : Bool). hasRoom l at && t) (lt-leb (to + 80) (length out) h) ∙ and-false (hasRoom l at)) refl)

@@ -14,12 +14,12 @@ waited-requires c κs = search needs
 returns : tie.Need-returns
 returns c = c .waited .ensures ∙ sym (hit _ _ _ (sym (c .before .before .is-waiting .ensures) ∙ c .before .if1 .taken))
 
-turned-requires : tie.Need-turned-requires
-turned-requires c κs = search needs
+round-ended-requires : tie.Need-round-ended-requires
+round-ended-requires c κs = search needs
 
 returns-2 : tie.Need-returns-2
-returns-2 c = c .turned .ensures ∙ sym (skip _ _ _ _ (sym (c .before .before .is-waiting .ensures) ∙ c .before .if1 .left) refl)
+returns-2 c = c .round-ended .ensures ∙ sym (skip _ _ _ _ (sym (c .before .before .is-waiting .ensures) ∙ c .before .if1 .left) refl)
 
 pub end-spec : {M : Type 1} → statement M
 end-spec =
-    tie.close (tie.spec is-waiting-requires waited-requires returns turned-requires returns-2)
+    tie.close (tie.spec is-waiting-requires waited-requires returns round-ended-requires returns-2)

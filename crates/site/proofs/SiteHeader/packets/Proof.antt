@@ -1,3 +1,4 @@
+-- The packets of all nodes, counted one node a turn: what is counted and the total of what is left make the total.
 use mathlib.Core.Path.{_≡_, refl, sym, ap, _∙_}
 use mathlib.Core.List.{List, [], _∷_}
 use Prim.Native.Nat.{ℕ, zero, suc, _≤_, _<_, _-_, _+_, _*_}

@@ -10,8 +10,8 @@ use Rattle.windows.specs.Copies.{windowsIn}
 use Rattle.machine.specs.declared.StepResult.{StepResult}
 use Rattle.group.specs.Places.{topPlaces}
 use Rattle.sites.specs.many.Memory.{memory, lent, placesIn}
-use Rattle.sites.specs.many.Inner.{OneSite, oneSite, commonFull, loneIn, stepResultBy, storeBy, siteBy, placesBy, areaBy, reportBy}
-use Rattle.sites.specs.many.Inner.{memoryBy}
+use Rattle.sites.specs.many.Inner.{OneSite, oneSite, commonFull, loneIn, stepResultBy, lentStoreBy, siteBy, placesBy, areaBy}
+use Rattle.sites.specs.many.Inner.{reportBy, memoryBy}
 use Rattle.sites.proofs.many.Lists.{front-length}
 use Rattle.sites.proofs.many.Memories.{cut-store, cut-words, cut-bytes, words-back, bytes-back, table-back}
 use borrow.Author.Needs.{needs}
@@ -133,11 +133,11 @@ returns c =
     let F = c .before .before .before .before .before .before .before .before .before .before .before .before .before .before .before
     .before .before .before .before .before .before .before .before .before .is-full .ensures in
     let told = o .0 ∙ ap₂ (λ (y : OneSite) (f : Bool). stepResultBy y f v (a .e)) X F in
-    let st : store (t .last .0) (t .last .1 .0) ≡ storeBy x (commonFull m (a .e)) v (a .e) =
-    (λ k. record { words = (o .1 .0) k; bytes = (o .1 .1 .0) k }) ∙ ap₂ (λ (y : OneSite) (f : Bool). storeBy y f v (a .e)) X F in
+    let st : store (t .last .0) (t .last .1 .0) ≡ lentStoreBy x (commonFull m (a .e)) v (a .e) =
+    (λ k. record { words = (o .1 .0) k; bytes = (o .1 .1 .0) k }) ∙ ap₂ (λ (y : OneSite) (f : Bool). lentStoreBy y f v (a .e)) X F in
     let w = ap (λ (y : Store). y .words) st in
     let b = ap (λ (y : Store). y .bytes) st in
-    let S = storeBy x (commonFull m (a .e)) v (a .e) in
+    let S = lentStoreBy x (commonFull m (a .e)) v (a .e) in
     let lw : length (S .words) ≡ wordsSize = ap length (sym w) ∙ t .kept .0 ∙ cut-words m (a .i) (q .0) (q .3) in
     let lb : length (S .bytes) ≡ bytesSize = ap length (sym b) ∙ t .kept .1 .0 ∙ cut-bytes m (a .i) (q .1) (q .3) in
     let p = o .1 .1 .1 .0 ∙ ap₂ (λ (y : OneSite) (f : Bool). placesBy y f v (a .e)) X F in

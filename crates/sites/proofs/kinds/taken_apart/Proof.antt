@@ -1,5 +1,5 @@
 use mathlib.Core.Path.{sym, ap}
-use Rattle.sites.specs.many.Inner.{partOf}
+use Rattle.sites.specs.many.Inner.{eventPart}
 use borrow.Author.Needs.{needs}
 use Rattle.sites.proofs.kinds.taken_apart.Statement.{statement}
 use Rattle.sites.proofs.kinds.taken_apart.Tie as tie
@@ -29,10 +29,10 @@ enum-told-6 : tie.Need-enum-told-6
 enum-told-6 c = search needs
 
 returns : tie.Need-returns
-returns c = sym (ap partOf (c .before .e .given .1))
+returns c = sym (ap eventPart (c .before .e .given .1))
 
 returns-2 : tie.Need-returns-2
-returns-2 c = sym (ap partOf (c .before .e2 .given .1))
+returns-2 c = sym (ap eventPart (c .before .e2 .given .1))
 
 returns-3 : tie.Need-returns-3
 returns-3 c = search needs

@@ -65,7 +65,7 @@ use Rattle.sites.proofs.Tallied.Laws as E′
 use Rattle.sites.specs.one.Calls.{configFrom}
 use Rattle.sites.specs.many.Memory as sites
 use Rattle.sites.specs.many.Memory.{memory, groupIn}
-use Rattle.sites.specs.many.Calls.{rowsTold, afterRows, groupRows}
+use Rattle.sites.specs.many.Calls.{rowsTallied, afterRows, groupRows}
 use Rattle.sites.proofs.many.Seen.{rows-told-same, rows-same, group-loaded-same}
 use Rattle.sites.proofs.many.load_tallied as g₂
 use Rattle.sites.proofs.many.load_tallied.Symbol as g₂-def
@@ -239,7 +239,7 @@ module _ {M : Type 1} (𝓤 : URA M) (H : Heap 𝓤) (A : Atoms 𝓤) (W : Given
   -- what is told of the load with the windows ws
   abbrev Told : List Window → Tallied → List ℕ → List ℕ → List ℕ → Type 0
   Told ws r zs-words zs-bytes zs-table =
-      (r ≡ rowsTold m n-a figures xs-rows n-day ws h)
+      (r ≡ rowsTallied m n-a figures xs-rows n-day ws h)
       × (zs-words ≡ afterRows m n-a figures xs-rows n-day ws .words)
       × (zs-bytes ≡ afterRows m n-a figures xs-rows n-day ws .bytes)
       × (zs-table ≡ afterRows m n-a figures xs-rows n-day ws .table)

@@ -10,7 +10,7 @@ use Rattle.node.specs.declared.Answer.{Answer}
 use Rattle.wire.specs.Reads.{partOf}
 use Rattle.site.specs.Counts.{packets}
 use Rattle.machine.specs.Layout.{Store, store, siteIn}
-use Rattle.machine.specs.turn.Kept.{firstRefusal}
+use Rattle.machine.specs.combined.Kept.{firstRefusal}
 use Rattle.sites.specs.many.Inner.{ownBy}
 use Rattle.sites.proofs.many.Hears.{part-there, heard-done, heard-refused}
 use borrow.Author.Needs.{needs}

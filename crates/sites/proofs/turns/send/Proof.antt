@@ -13,7 +13,7 @@ use Rattle.site.specs.Members.{memberAt}
 use Rattle.site.specs.Answers.{siteSend}
 use Rattle.site.specs.Steps.{stored}
 use Rattle.machine.specs.Layout.{store, siteIn}
-use Rattle.machine.specs.turn.Kept.{firstRefusal}
+use Rattle.machine.specs.combined.Kept.{firstRefusal}
 use Rattle.group.specs.Places.{entry}
 use Rattle.group.specs.Group.{ownShare}
 use Rattle.sites.specs.many.Inner.{groupSendAnswer}

@@ -66,7 +66,9 @@ listed-requires-2 : tie.Need-listed-requires-2
 listed-requires-2 c κs = search needs
 
 hear-requires : tie.Need-hear-requires
-hear-requires c κs = c .before .before .before .before .before .before .before .before .before .before .before .before .before .before .before .before .before .before .before .before .before .before .before .pre
+hear-requires c κs =
+    let c11 = c .before .before .before .before .before .before .before .before .before .before .before in
+    c11 .before .before .before .before .before .before .before .before .before .before .before .before .pre
 
 enum-told : tie.Need-enum-told
 enum-told c = search needs

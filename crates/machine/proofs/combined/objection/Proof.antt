@@ -6,8 +6,8 @@ use Rattle.windows.specs.Copies.{windowsIn}
 use Rattle.machine.specs.Layout.{store}
 use Rattle.machine.proofs.Whole.{as-header}
 use borrow.Author.Needs.{needs}
-use Rattle.machine.proofs.turn.objection.Statement.{statement}
-use Rattle.machine.proofs.turn.objection.Tie as tie
+use Rattle.machine.proofs.combined.objection.Statement.{statement}
+use Rattle.machine.proofs.combined.objection.Tie as tie
 
 is-end-requires : tie.Need-is-end-requires
 is-end-requires c κs = search needs

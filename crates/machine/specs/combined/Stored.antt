@@ -17,7 +17,7 @@ use Rattle.machine.specs.timed.Stored.{timedIn, timedStore}
 use Rattle.machine.specs.declared.Day.{Day}
 use Rattle.machine.specs.reports.Reports.{reportsSize, putReport}
 use Rattle.tally.specs.declared.Tally.{Tally}
-use Rattle.machine.specs.turn.Kept.{Kept, keptAnswer, keptAfter}
+use Rattle.machine.specs.combined.Kept.{Kept, keptAnswer, keptAfter}
 use Rattle.machine.specs.declared.StepResult.{StepResult}
 
 -- what storage, day, area and tally stand for

@@ -2,8 +2,8 @@ use mathlib.Core.Path.{refl, sym, ap₂, _∙_}
 use mathlib.Core.Bool.{_&&_}
 use Rattle.words.proofs.Tests.{hit, skip}
 use borrow.Author.Needs.{needs}
-use Rattle.machine.proofs.turn.tally_behind.Statement.{statement}
-use Rattle.machine.proofs.turn.tally_behind.Tie as tie
+use Rattle.machine.proofs.combined.tally_behind.Statement.{statement}
+use Rattle.machine.proofs.combined.tally_behind.Tie as tie
 
 is-end-requires : tie.Need-is-end-requires
 is-end-requires c κs = search needs

@@ -12,7 +12,7 @@ use Rattle.windows.specs.declared.Window.{Window}
 use Rattle.tally.specs.Counting.{tallyOk}
 use Rattle.tally.specs.Ends.{tallyAt}
 use Rattle.tally.specs.declared.Tally.{Tally}
-use Rattle.machine.specs.turn.Kept.{Kept, listFits}
+use Rattle.machine.specs.combined.Kept.{Kept, listFits}
 
 -- what an end has against its tally, and any other event against its list; the end's list is tested as it begins
 abbrev pub objection : Kept → List Window → Event → Answer

@@ -20,9 +20,9 @@ use Rattle.machine.specs.Layout.{Store, siteIn}
 use Rattle.machine.specs.declared.Day.{Day}
 use Rattle.tally.specs.Ends.{talliedAnswer}
 use Rattle.tally.specs.declared.Tally.{Tally}
-use Rattle.machine.specs.turn.Kept.{firstRefusal, keptAnswer}
-use Rattle.machine.specs.turn.Stored.{keptIn, lentTooShort, stepAnswer, stepAccepted, stepStore, stepReport, stepKept}
-use Rattle.machine.proofs.turn.Laws.{first-refuses, kept-refused, store-refused}
+use Rattle.machine.specs.combined.Kept.{firstRefusal, keptAnswer}
+use Rattle.machine.specs.combined.Stored.{keptIn, lentTooShort, stepAnswer, stepAccepted, stepStore, stepReport, stepKept}
+use Rattle.machine.proofs.combined.Laws.{first-refuses, kept-refused, store-refused}
 
 -- what is one thing for every list that breaks the rules is the same for a list and its copy
 pub same-seen : {X : Type 0} (N D : ℕ) (ws : List Window) (P : List Window → X) (x : X)

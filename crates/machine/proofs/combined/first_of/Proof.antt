@@ -1,8 +1,8 @@
 use mathlib.Core.Path.{refl, sym, _∙_}
 use Rattle.words.proofs.Tests.{hit, skip}
 use borrow.Author.Needs.{needs}
-use Rattle.machine.proofs.turn.first_of.Statement.{statement}
-use Rattle.machine.proofs.turn.first_of.Tie as tie
+use Rattle.machine.proofs.combined.first_of.Statement.{statement}
+use Rattle.machine.proofs.combined.first_of.Tie as tie
 
 is-done-requires : tie.Need-is-done-requires
 is-done-requires c κs = search needs

@@ -6,11 +6,11 @@ use borrow.Author.Tests.{not-true, not-false}
 use Rattle.node.specs.Answers.{number, isDone}
 use Rattle.windows.specs.Copies.{windowsIn}
 use Rattle.machine.specs.Layout.{store}
-use Rattle.machine.specs.turn.Inner.{objection}
-use Rattle.machine.specs.turn.Stored.{keptIn, lentTooShort}
-use Rattle.machine.proofs.turn.Laws.{few-short, no-room, refuses, as-done}
-use Rattle.machine.proofs.turn.step.Statement.{statement}
-use Rattle.machine.proofs.turn.step.Tie as tie
+use Rattle.machine.specs.combined.Inner.{objection}
+use Rattle.machine.specs.combined.Stored.{keptIn, lentTooShort}
+use Rattle.machine.proofs.combined.Laws.{few-short, no-room, refuses, as-done}
+use Rattle.machine.proofs.combined.step.Statement.{statement}
+use Rattle.machine.proofs.combined.step.Tie as tie
 
 too-few-requires : tie.Need-too-few-requires
 too-few-requires c κs = search needs

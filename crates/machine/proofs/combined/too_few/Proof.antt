@@ -5,8 +5,8 @@ use lib.ListN.{length}
 use Rattle.site.specs.Answers.{areaSize}
 use Rattle.machine.specs.Layout.{store, tooShort}
 use borrow.Author.Needs.{needs}
-use Rattle.machine.proofs.turn.too_few.Statement.{statement}
-use Rattle.machine.proofs.turn.too_few.Tie as tie
+use Rattle.machine.proofs.combined.too_few.Statement.{statement}
+use Rattle.machine.proofs.combined.too_few.Tie as tie
 
 report-too-short-requires : tie.Need-report-too-short-requires
 report-too-short-requires c κs = search needs

@@ -32,10 +32,10 @@ use Rattle.machine.proofs.reports.Laws.{no-close-put}
 use Rattle.tally.specs.Counting.{tallyOk}
 use Rattle.tally.specs.Ends.{talliedAnswer, tallyAt}
 use Rattle.tally.specs.declared.Tally.{Tally}
-use Rattle.machine.specs.turn.Kept.{Kept, firstRefusal, listFits, keptAnswer, nextKept, keptAfter}
-use Rattle.machine.specs.turn.Stored.{keptIn, reportTooShort, lentTooShort, stepAnswer, stepAccepted, stepStore, stepReport, stepKept}
-use Rattle.machine.specs.turn.Stored.{stepResult}
-use Rattle.machine.specs.turn.Inner.{objection, tallyBehind}
+use Rattle.machine.specs.combined.Kept.{Kept, firstRefusal, listFits, keptAnswer, nextKept, keptAfter}
+use Rattle.machine.specs.combined.Stored.{keptIn, reportTooShort, lentTooShort, stepAnswer, stepAccepted, stepStore, stepReport}
+use Rattle.machine.specs.combined.Stored.{stepKept, stepResult}
+use Rattle.machine.specs.combined.Inner.{objection, tallyBehind}
 use Rattle.machine.specs.declared.StepResult.{StepResult}
 
 -- two answers, where the first is done or not

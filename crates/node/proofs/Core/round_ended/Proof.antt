@@ -1,6 +1,6 @@
 use Rattle.node.proofs.Cores.{stepOf, turned-as, turn-move}
 use Rattle.node.specs.declared.Phase.the-variants.{Negotiation}
-use Rattle.node.specs.Core.{bare, endMoveBy, coreTurned}
+use Rattle.node.specs.Core.{bare, endMoveBy, coreRoundEnded}
 use Rattle.node.specs.Inner.{coreRequest, flagsAfter}
 use Rattle.node.specs.End.{expires}
 use Rattle.node.specs.Negotiation.{opened}
@@ -10,8 +10,8 @@ use mathlib.Core.Bool.{Bool, not, cond, _&&_}
 use mathlib.Core.Path.{ap, ap₂, _∙_}
 use Prim.Native.Nat.{_-_, _+_}
 use borrow.Author.Needs.{needs}
-use Rattle.node.proofs.Core.turned.Statement.{statement}
-use Rattle.node.proofs.Core.turned.Tie as tie
+use Rattle.node.proofs.Core.round_ended.Statement.{statement}
+use Rattle.node.proofs.Core.round_ended.Tie as tie
 
 is-last-requires : tie.Need-is-last-requires
 is-last-requires c κs = search needs
@@ -44,7 +44,7 @@ end-move-requires : tie.Need-end-move-requires
 end-move-requires c κs = search needs
 
 returns : tie.Need-returns
-unfolding coreTurned
+unfolding coreRoundEnded
 returns c =
     let n = c .before .before .before .before .before .before .before .before .before .before .before .before .before .args .self in
     let last = c .before .before .before .before .before .before .before .before .before .before .is-last .ensures in
@@ -77,8 +77,8 @@ returns c =
     ∙ turned-as n (isLast (n .setup .config) (n .place)) in
     λ i. stepOf (core i) (change i)
 
-pub turned-spec : {M : Type 1} → statement M
-turned-spec =
+pub round-ended-spec : {M : Type 1} → statement M
+round-ended-spec =
     tie.close
     (tie.spec
     is-last-requires
