@@ -1,4 +1,6 @@
 // Layer 1: the allotment of slots (specification, 4 Allotment; the paper's section 4.3).
+#![tactic(auto)]
+
 ghost use Rattle.std.specs.Prelude.{◌≡◌, true, cond, ℕ, min, ◌≤◌, ◌<◌, ◌+◌, ◌-◌, ltb, get_or};
 ghost use Rattle.lists.specs.All.{iter};
 ghost use Rattle.allotment.specs.Allotment.{top_slots, ask, asks, deal_round, dealt, targets};
@@ -15,21 +17,21 @@ pub const SLOTS: u32 = 80;
 pub const TOP_REQUEST: u8 = 15;
 
 // Slots dealt so far, by node, and how many are left.
-#[derive(Drop)]
+#[derive(Clone, Copy)]
 pub struct Deal {
     pub targets: [u8; 32],
     pub left: u32,
 }
 
 // The lowest ones of a word, and how many more there might have been.
-#[derive(Drop)]
+#[derive(Clone, Copy)]
 pub struct Few {
     pub kept: u64,
     pub left: u8,
 }
 
 // What a node keeps: two words, and how many slots they have.
-#[derive(Drop)]
+#[derive(Clone, Copy)]
 pub struct Share {
     pub low: u64,
     pub high: u16,

@@ -1,4 +1,6 @@
 // The node area: the bytes of a node, read and written (docs/node-area.md). Where each number stands is said here alone.
+#![tactic(auto)]
+
 ghost use Rattle.std.specs.Prelude.{◌≡◌, eqb, length, ◌+◌, ◌≤◌};
 ghost use Rattle.lists.specs.Bytes.{flat, window, written};
 ghost use Rattle.allotment.specs.Allotment.{free};
@@ -15,7 +17,7 @@ use node::{Config, Core, Move, Round, Setup};
 pub const AREA: usize = 828;
 
 // The node in an area but for its schedules, and whether these are its bytes and it is within the ranges.
-#[derive(Drop)]
+#[derive(Clone, Copy)]
 pub struct AreaRead {
     pub ok: bool,
     pub core: Core,

@@ -1,12 +1,14 @@
 // What the C service in the box calls: the node behind a lent area of bytes (calls), the demand of an epoch (lookup), and the release
 // (version).
+#![tactic(auto)]
+
 mod calls;
 mod lookup;
 mod steps;
 mod version;
 
 // What a lookup returns, and the demand that it writes.
-#[derive(Drop)]
+#[derive(Clone, Copy)]
 pub struct Found {
     pub code: u32,
     pub demand: u32,

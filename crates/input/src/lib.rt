@@ -1,4 +1,6 @@
 // Standard input of the desk's programs: a script, read to the start of a lent buffer.
+#![tactic(auto)]
+
 ghost use Rattle.std.specs.Prelude.{◌≤◌, length};
 ghost use Rattle.io.specs.Counts.{IsPrefixLen};
 
@@ -6,7 +8,7 @@ use libc::{STDERR_FILENO, STDIN_FILENO};
 
 // How many bytes of the input stand at the start of a buffer, and whether there is nothing to run: a read failed before the input ended, or
 // the program was given arguments.
-#[derive(Drop)]
+#[derive(Clone, Copy)]
 pub struct Input {
     pub length: usize,
     pub failed: bool,

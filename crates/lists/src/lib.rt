@@ -1,4 +1,6 @@
 // Lists of bytes: read, compared, tested and written.
+#![tactic(auto)]
+
 ghost use Rattle.std.specs.Prelude.{◌≡◌, ℕ, min, ◌+◌, ◌*◌, ◌≤◌, get_or, length};
 ghost use Rattle.lists.specs.All.{same, at_most, bounded};
 ghost use Rattle.lists.specs.Bytes.{word32, bytes32, window, Tried};

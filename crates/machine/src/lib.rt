@@ -1,4 +1,6 @@
 // A site in lent words and bytes: loaded, read and written by its nodes' numbers, and closed and ended as a whole.
+#![tactic(auto)]
+
 ghost use Rattle.std.specs.Prelude.{◌≡◌, min, ◌<◌, length};
 ghost use Rattle.machine.specs.timed.Timed.{next_in_day};
 
@@ -27,14 +29,14 @@ pub use phases::{close, end};
 use tally::Tally;
 
 // D epochs, and which of them it is: the first is 0.
-#[derive(Drop)]
+#[derive(Clone, Copy)]
 pub struct Day {
     pub length: u32,
     pub epoch: u32,
 }
 
 // An answer with the day after it; after a refusal the day as it was.
-#[derive(Drop)]
+#[derive(Clone, Copy)]
 pub struct DayAnswer {
     pub answer: Answer,
     pub day: Day,
@@ -65,20 +67,20 @@ impl Day {
 }
 
 // Whether a node reports, and its ground then.
-#[derive(Drop)]
+#[derive(Clone, Copy)]
 pub struct NodeReport {
     pub live: bool,
     pub ground: Ground,
 }
 
 // What each of the nodes reports.
-#[derive(Drop)]
+#[derive(Clone, Copy)]
 pub struct Report {
     pub nodes: [NodeReport; 32],
 }
 
 // An answer's number with the day and the tally after it; after a refusal they are as they were.
-#[derive(Drop)]
+#[derive(Clone, Copy)]
 pub struct StepResult {
     pub code: u32,
     pub day: Day,

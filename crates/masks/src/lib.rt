@@ -1,4 +1,6 @@
 // A schedule as masks of slots, one of each node, and how many slots each node has: in bytes, and no value of the code.
+#![tactic(auto)]
+
 ghost use Rattle.std.specs.Prelude.{◌≡◌, cond, ◌+◌, ◌-◌, ◌^◌, ◌≤◌, ◌<◌, length};
 ghost use Rattle.masks.specs.Inner.{slots_given, index_of};
 
@@ -11,7 +13,7 @@ pub use bytes::{has_room, high_at, low_at, own, put_words};
 pub use inplace::{clear, copy, fit, rows_used};
 
 // One node's two words, and how many slots it has.
-#[derive(Drop)]
+#[derive(Clone, Copy)]
 pub struct NodeSlots {
     pub low: u64,
     pub high: u16,

@@ -1,4 +1,6 @@
 // Layer 2: a node by value. Algorithm 1 of the Hydra paper, with the specification's own rules.
+#![tactic(auto)]
+
 mod begin;
 mod close;
 mod distribution;
@@ -20,7 +22,7 @@ pub use refusals::{end_answer, negotiation_answer, take_answer, want_answer};
 // The figures of a site (specification, 1 Figures): N nodes, K slots, F rounds in an epoch.
 // `min_heard`, the format's `heard`, is S-9's threshold: rounds of an epoch in which a node must be heard to enter the flags.
 // `split` is 1 where the site may split.
-#[derive(Drop)]
+#[derive(Clone, Copy)]
 pub struct Config {
     pub nodes: u32,
     pub slots: u32,
@@ -30,14 +32,14 @@ pub struct Config {
 }
 
 // A node's number, and the figures of its site.
-#[derive(Drop)]
+#[derive(Clone, Copy)]
 pub struct Setup {
     pub node: u32,
     pub config: Config,
 }
 
 // For the round: M', R', lowest and highest version, C_r.
-#[derive(Drop)]
+#[derive(Clone, Copy)]
 pub struct Round {
     pub merged: u32,
     pub known: [u8; 32],
@@ -47,7 +49,7 @@ pub struct Round {
 }
 
 // A restarted node waits until the epoch is over; in distribution a node sends or doesn't.
-#[derive(Drop)]
+#[derive(Clone, Copy)]
 pub enum Phase {
     Waiting,
     Negotiation,
@@ -56,7 +58,7 @@ pub enum Phase {
 
 // A node but for its two schedules: all that the rules look at. In this order it has 128 bytes; the compiler copies a larger struct by a
 // call of `memcpy`.
-#[derive(Drop)]
+#[derive(Clone, Copy)]
 pub struct Core {
     pub setup: Setup,
     pub version: u32,
@@ -73,7 +75,7 @@ pub struct Core {
 
 // What a step makes of them. `Determine`: a schedule is determined. `Raise`: the determined one is held, and none is
 // determined. `Drop`: none is determined. `Free`: and all slots are free.
-#[derive(Drop)]
+#[derive(Clone, Copy)]
 pub enum Move {
     Keep,
     Determine,
@@ -84,14 +86,14 @@ pub enum Move {
 }
 
 // The next core, and what becomes of the schedules.
-#[derive(Drop)]
+#[derive(Clone, Copy)]
 pub struct CoreStep {
     pub core: Core,
     pub change: Move,
 }
 
 // What a node sends in negotiation.
-#[derive(Drop)]
+#[derive(Clone, Copy)]
 pub struct Packet {
     pub sender: u32,
     pub lowest: u32,
@@ -101,7 +103,7 @@ pub struct Packet {
 }
 
 // Done, or the refusals in the order of their numbers (specification, 9 Refusals).
-#[derive(Drop)]
+#[derive(Clone, Copy)]
 pub enum Answer {
     Done,
     BadNames,
@@ -125,7 +127,7 @@ pub enum Answer {
 }
 
 // What a close makes of a node: lines 24 to 29.
-#[derive(Drop)]
+#[derive(Clone, Copy)]
 pub enum Verdict {
     Determines,
     Repeats,
@@ -133,7 +135,7 @@ pub enum Verdict {
 }
 
 // Why a node sends what it sends, or nothing, at a close: the rules in the order in which they are tried.
-#[derive(Drop)]
+#[derive(Clone, Copy)]
 pub enum Rule {
     RequestMissing,
     NoMajority,
@@ -145,14 +147,14 @@ pub enum Rule {
 }
 
 // The rule of a close, and the lowest node of M' without a request, 0 for none.
-#[derive(Drop)]
+#[derive(Clone, Copy)]
 pub struct Ground {
     pub rule: Rule,
     pub missing: u8,
 }
 
 // A packet, and the node after it was sent: as it was.
-#[derive(Drop)]
+#[derive(Clone, Copy)]
 pub struct Sent {
     pub packet: Packet,
     pub core: Core,

@@ -1,4 +1,6 @@
 // Whether a node is within the ranges (specification, 2 What a node holds).
+#![tactic(auto)]
+
 ghost use Rattle.std.specs.Prelude.{◌≡◌, cond, ◌<◌};
 ghost use Rattle.node.specs.Core.{bare};
 ghost use Rattle.range.specs.Range.{round_ok, round_lapsed, closes_seen, epoch_ok, waiting_ok, phase_ok, in_range};

@@ -1,4 +1,6 @@
 // A script with no idle event: of a script that gives a refusal number, the event lines that are needed for it.
+#![tactic(auto)]
+
 ghost use Rattle.std.specs.Prelude.{◌≡◌, true, false, cond, ◌&&◌, [], min, max, ◌+◌, ◌-◌, ◌≤◌, ◌<◌, eqb, length, get_or, drop, take};
 ghost use Rattle.lists.specs.Bytes.{Put, Tried};
 ghost use Rattle.text.specs.Read.{split};
@@ -18,21 +20,21 @@ use node::Answer;
 use script::{Line, Parsed, ScriptHead};
 
 // The answer, and how many bytes were written.
-#[derive(Drop)]
+#[derive(Clone, Copy)]
 pub struct Reduction {
     pub reply: Answer,
     pub length: usize,
 }
 
 // Whether a line gave the number, and the day after it.
-#[derive(Drop)]
+#[derive(Clone, Copy)]
 struct TrialStep {
     gave: bool,
     day: Day,
 }
 
 // Where a run of kept lines stopped: whether its last line gave the number, the place of the next line, and the day.
-#[derive(Drop)]
+#[derive(Clone, Copy)]
 struct Reached {
     gave: bool,
     at: usize,

@@ -1,5 +1,7 @@
 // Reads a script from standard input, runs it with no windows, and prints. One byte above the greatest script is enough to know that it is
 // too long.
+#![tactic(auto)]
+
 use desk::View;
 use libc::{STDERR_FILENO, STDOUT_FILENO};
 

@@ -1,4 +1,5 @@
 // The lines of a script: settings and table, then events.
+#![tactic(auto)]
 
 pub mod events;
 pub mod lines;
@@ -8,7 +9,7 @@ use node::{Answer, Config};
 use site::{Event, Row, Table};
 
 // What stands at a place: nothing, a line without byte 10, or a line and the place of its byte 10.
-#[derive(Drop)]
+#[derive(Clone, Copy)]
 pub enum Line {
     Nothing,
     Open,
@@ -16,28 +17,28 @@ pub enum Line {
 }
 
 // A line read as two numbers.
-#[derive(Drop)]
+#[derive(Clone, Copy)]
 pub enum Two {
     NotTwo,
     Pair(u32, u32),
 }
 
 // A line read as three numbers.
-#[derive(Drop)]
+#[derive(Clone, Copy)]
 pub enum Three {
     NotThree,
     Triple(u32, u32, u32),
 }
 
 // A line read as four numbers.
-#[derive(Drop)]
+#[derive(Clone, Copy)]
 pub enum Four {
     NotFour,
     Quad(u32, u32, u32, u32),
 }
 
 // A line read as five numbers.
-#[derive(Drop)]
+#[derive(Clone, Copy)]
 pub enum Five {
     NotFive,
     Quint(u32, u32, u32, u32, u32),
@@ -45,7 +46,7 @@ pub enum Five {
 
 // Settings and table, and where the event lines start; or a refusal with the number of its line, and the settings where they were accepted
 // before it.
-#[derive(Drop)]
+#[derive(Clone, Copy)]
 pub struct ScriptHead {
     pub answer: Answer,
     pub line: u32,
@@ -55,21 +56,21 @@ pub struct ScriptHead {
 }
 
 // Where the next line starts, behind a line of names that is right.
-#[derive(Drop)]
+#[derive(Clone, Copy)]
 enum Next {
     Wrong,
     At(usize),
 }
 
 // A row of the table, or a line that is none.
-#[derive(Drop)]
+#[derive(Clone, Copy)]
 enum Found {
     Bad,
     Good(Row),
 }
 
 // An event line, or one that is none.
-#[derive(Drop)]
+#[derive(Clone, Copy)]
 pub enum Parsed {
     Malformed,
     Good(Event),

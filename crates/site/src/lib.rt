@@ -1,4 +1,6 @@
 // Layer 3: what a site is, its eight events and their answers by the node's promises alone.
+#![tactic(auto)]
+
 ghost use Rattle.std.specs.Prelude.{◌≡◌};
 ghost use Rattle.site.specs.Load.{row_ok, table_ok, load_answer};
 
@@ -9,20 +11,20 @@ pub use events::{is_close, is_end, node_index};
 use node::{Answer, Config, Setup};
 
 // A row of the table.
-#[derive(Drop)]
+#[derive(Clone, Copy)]
 pub struct Row {
     pub version: u32,
     pub flags: u32,
     pub want: u8,
 }
 
-#[derive(Drop)]
+#[derive(Clone, Copy)]
 pub struct Table {
     pub rows: [Row; 32],
 }
 
 // What the listing says of a node.
-#[derive(Drop)]
+#[derive(Clone, Copy)]
 pub enum State {
     Live,
     Waiting,
@@ -30,7 +32,7 @@ pub enum State {
 }
 
 // What a site holds beside its members. The phase and the place in the epoch move on with or without live nodes.
-#[derive(Drop)]
+#[derive(Clone, Copy)]
 pub struct SiteHeader {
     pub config: Config,
     pub negotiates: bool,
@@ -39,7 +41,7 @@ pub struct SiteHeader {
 }
 
 // The eight events with their values, in or out of range.
-#[derive(Drop)]
+#[derive(Clone, Copy)]
 pub enum Event {
     Send(u32),
     Hear(u32, u32),

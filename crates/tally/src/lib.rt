@@ -1,11 +1,13 @@
 // Slots held, by box and month: the tally by value, and what an epoch adds to it.
+#![tactic(auto)]
+
 ghost use Rattle.std.specs.Prelude.{◌≡◌, true, ◌≤◌, ◌<◌};
 ghost use Rattle.words.specs.Bits.{digit};
 ghost use Rattle.tally.specs.Counting.{top_epochs, first_tally, tally_entry_ok, tally_ok, tally_full, added_by, counted_by};
 
 // Epochs counted, the site's slots, and by node the slots that it held and the epochs in which it held one. The fields lie as C has them.
 #[repr(C)]
-#[derive(Drop)]
+#[derive(Clone, Copy)]
 pub struct Tally {
     pub epochs: u32,
     pub total: u32,

@@ -1,11 +1,13 @@
 // Bytes as text: a separator found, numbers read and written in decimal.
+#![tactic(auto)]
+
 ghost use Rattle.std.specs.Prelude.{◌≡◌, [], ◌∷◌, ◌≤◌, ◌+◌, length};
 ghost use Rattle.lists.specs.Bytes.{written, Tried};
 ghost use Rattle.text.specs.Read.{before, number_of};
 ghost use Rattle.text.specs.Write.{decimal};
 
 // A field read as a number.
-#[derive(Drop)]
+#[derive(Clone, Copy)]
 pub enum Num {
     Bad,
     Value(u32),

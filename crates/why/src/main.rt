@@ -2,6 +2,8 @@
 // nothing, at each close.
 // Refused lines have no reason, so it says on standard error how many there are. One byte above the greatest script is enough to know that
 // it is too long.
+#![tactic(auto)]
+
 ghost use Rattle.std.specs.Prelude.{◌≡◌};
 ghost use Rattle.why.specs.Refused.{one, byte_count, refused_in};
 

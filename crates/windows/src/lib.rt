@@ -1,4 +1,6 @@
 // Demands by the hour: windows of a day, lent as a list of records or as words, four for each window.
+#![tactic(auto)]
+
 ghost use Rattle.std.specs.Prelude.{◌≡◌, ◌<◌, eqb, length, replicate, not, cond};
 ghost use Rattle.lists.specs.All.{all_below};
 ghost use Rattle.windows.specs.Windows.{day_ok, window_ok, is_due, overlap, entry_ok, list_ok, due_all, looked_of};
@@ -7,7 +9,7 @@ ghost use Rattle.windows.specs.Copies.{window_in, window_count, windows_in, word
 
 // What a node wants from an epoch of the day up to the one before `end`. The fields lie as C has them.
 #[repr(C)]
-#[derive(Drop)]
+#[derive(Clone, Copy)]
 pub struct Window {
     pub node: u32,
     pub first: u32,
@@ -16,7 +18,7 @@ pub struct Window {
 }
 
 // The first 65 windows of a list in words, four for each, by value: how many there are, and the words.
-#[derive(Drop)]
+#[derive(Clone, Copy)]
 pub struct Windows {
     pub count: usize,
     pub list: [u32; 260],
@@ -283,14 +285,14 @@ pub fn copied(ws: &[Window]) -> Windows
 }
 
 // Whether a list keeps the rules, and the demand of a node as an epoch begins; where it keeps none, the demand as it was.
-#[derive(Drop)]
+#[derive(Clone, Copy)]
 pub struct Looked {
     pub ok: bool,
     pub demand: u32,
 }
 
 // A pass over n windows, which meets each with those before it and then alone: window i is next to meet window k.
-#[derive(Drop)]
+#[derive(Clone, Copy)]
 struct Seen {
     n: usize,
     i: usize,

@@ -1,4 +1,6 @@
 // Packets and schedules as bytes: one layout, written and read (specification, 5 Bytes on the air); and the byte of a phase.
+#![tactic(auto)]
+
 ghost use Rattle.std.specs.Prelude.{◌≡◌, cond, ◌*◌, eqb, leb, length};
 ghost use Rattle.lists.specs.Bytes.{bytes32, window, written, Tried};
 ghost use Rattle.wire.specs.Layout.{packet_size, schedule_size, packet_bytes, packet_in, schedule_in, schedule_written};
@@ -16,7 +18,7 @@ pub const SCHEDULE: usize = 84;
 pub const OWNERS: usize = 4;
 
 // What reading a packet found; the packet is good where the answer is Done.
-#[derive(Drop)]
+#[derive(Clone, Copy)]
 pub struct PacketRead {
     pub answer: Answer,
     pub packet: Packet,

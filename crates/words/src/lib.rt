@@ -1,4 +1,6 @@
 // Sets of nodes as 32-bit words: bit j - 1 stands for node j, so bit i for node i + 1.
+#![tactic(auto)]
+
 ghost use Rattle.std.specs.Prelude.{◌≡◌, ◌^◌, ltb};
 ghost use Rattle.words.specs.Bits.{has_bit, with_bit, size, is_in, is_inside, all_of};
 

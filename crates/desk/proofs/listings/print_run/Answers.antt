@@ -1,0 +1,75 @@
+-- A load that is refused prints line 0 alone; one that is accepted leaves the site that the lines run on, and room for what they print.
+use mathlib.Core.Path.{sym, ap, ◌∙◌}
+use Prim.Native.Nat.{◌≤◌}
+use native.Mathlib.Omega.{arith}
+use lib.ListN.{length}
+use borrow.Author.Tests.{not-true, not-false}
+use Rattle.windows.specs.Copies.{windows_in}
+use Rattle.machine.specs.Layout.{store, words_size, bytes_size}
+use Rattle.desk.proofs.listings.Parts.{zeros-long, not-loaded, loaded, begun-list, bad-put, bad-area, run_room, rest-room, rest_put}
+use Rattle.desk.proofs.listings.Parts.{area-is}
+use borrow.Author.Rules.{rules}
+use Rattle.desk.proofs.listings.print_run.Goals as goal
+
+pub put_refused-requires : goal.put_refused-requires
+put_refused-requires c =
+    c.requires.some
+
+-- A list or a day that breaks the rules is all that is told.
+pub returns-then-not-is_done : goal.returns-then-not-is_done
+returns-then-not-is_done c =
+    let a = c.args in
+    let o = c.load-loaded in
+    let r = not-loaded _ _ a.o c.requires.loads _ o.ensures.value (sym c.is_done.ensures
+    ∙ c.if-not-is_done.true) in record {
+      put = bad-put a.v a.day (windows_in a.w.now) a.script.now a.o a.area.now r.0 _ r.1
+          c.put_refused.ensures;
+      area_after = bad-area a.v a.day (windows_in a.w.now) a.script.now a.o a.area.now r.0;
+    }
+
+-- Behind the event lines the rest is left to be written (`rest-room`).
+pub run-end-requires : goal.run-end-requires
+run-end-requires c =
+    let a = c.args in
+    let f = c.requires in
+    let o = c.load-loaded in
+    let r = loaded _ _ a.o f.loads _ o.ensures.value (sym c.is_done.ensures
+    ∙ c.if-not-is_done.false)
+    (store o.new.words o.new.bytes) o.ensures.bytes_after_2 in
+    let n = f.nodes in
+    let s = f.short in (
+      f.from,
+      omega arith,
+      search rules,
+      search rules,
+      run_room a.v _ _ _ _ _ _ r.0 r.1 f c.put_head-to.ensures,
+      begun-list a.day (windows_in a.w.now) a.o (store o.new.words o.new.bytes) o.result.day r.0 r.1,
+    )
+
+pub put_rest-requires : goal.put_rest-requires
+put_rest-requires c =
+    let a = c.args in
+    let f = c.requires in
+    let o = c.load-loaded in
+    let r = loaded _ _ a.o f.loads _ o.ensures.value (sym c.is_done.ensures
+    ∙ c.if-not-is_done.false) (store o.new.words o.new.bytes) o.ensures.bytes_after_2
+    in
+    let k = c.run-end.auto.1.1.1 in (
+      f.nodes,
+      f.slots,
+      omega (arith, k.0, o.auto.words, zeros-long.0),
+      omega (arith, k.1.0, o.auto.bytes, zeros-long.1),
+      rest-room a.v _ _ _ _ _ _ r.0 r.1 f c.put_head-to.ensures c.run-end.ensures,
+    )
+
+pub returns : goal.returns
+returns c =
+    let a = c.args in
+    let f = c.requires in
+    let o = c.load-loaded in
+    let r = loaded _ _ a.o f.loads _ o.ensures.value (sym c.is_done.ensures
+    ∙ c.if-not-is_done.false) (store o.new.words o.new.bytes) o.ensures.bytes_after_2
+    in record {
+      put = rest_put a.v _ _ _ _ _ _ r.0 r.1 f c.put_head-to.ensures c.run-end.ensures c.put_rest.ensures;
+      area_after = area-is a.v _ _ _ _ _ _ r.0 r.1 f c.put_head-to.ensures c.run-end.ensures;
+    }

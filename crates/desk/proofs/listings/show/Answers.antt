@@ -1,0 +1,33 @@
+use Rattle.windows.specs.Copies.{windows_in}
+use Rattle.desk.proofs.listings.Parts.{ends-within, no_room, with-room}
+use native.Mathlib.Omega.{arith}
+use borrow.Author.Rules.{rules}
+use Rattle.desk.proofs.listings.show.Goals as goal
+
+pub returns-then-out-room_of : goal.returns-then-out-room_of
+returns-then-out-room_of c =
+    let a = c.args in
+    let q = no_room a.v a.day (windows_in a.w.now) a.script.now a.area.now a.out.now
+    (omega (arith, c.if-out-room_of.true, c.room_of.ensures)) in record {
+      value = q.0;
+      out_after = q.1;
+      area_after = q.2;
+      within = (omega arith, omega arith);
+    }
+
+pub print-n-requires : goal.print-n-requires
+print-n-requires c = omega (arith, c.if-out-room_of.false, c.room_of.ensures)
+
+pub returns : goal.returns
+returns c =
+    let a = c.args in
+    let h = c.if-out-room_of.false in
+    let z = c.room_of.ensures in
+    let p = c.print-n.ensures in
+    let q = with-room a.v a.day (windows_in a.w.now) a.script.now a.area.now a.out.now (omega (arith, h, z)) p.put
+    p.area_after in record {
+      value = q.0;
+      out_after = q.1;
+      area_after = q.2;
+      within = (ends-within (omega (arith, h, z, p.within)) p.put, p.within);
+    }

@@ -1,0 +1,10 @@
+use Rattle.desk.proofs.reasons.Laws.{line-put}
+use native.Mathlib.Omega.{arith}
+use borrow.Author.Rules.{rules}
+use Rattle.desk.proofs.reasons.row.Goals as goal
+
+pub returns : goal.returns
+returns c =
+    line-put _ _ c.args.g c.requires c.put_number-a.ensures c.put_byte-b.ensures c.put_number-c.ensures
+    c.put_byte-d.ensures
+    c.put_rule-e.ensures c.put_number-f.ensures c.put_byte.ensures

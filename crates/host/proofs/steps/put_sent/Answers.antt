@@ -1,0 +1,50 @@
+use mathlib.Core.Bool.{Bool, true, false, cond, ◌&&◌}
+use mathlib.Core.List.{List, []}
+use mathlib.Core.Path.{◌≡◌, sym, ap, ◌∙◌}
+use Prim.Native.Nat.{ℕ, ◌+◌, ◌≤◌}
+use native.Mathlib.Omega.{arith}
+use lib.Dec.{leb}
+use lib.ListN.{length}
+use borrow.Author.Tests.{le-leb, not-true, not-false}
+use Rattle.lists.specs.Bytes.{written}
+use Rattle.lists.proofs.Chain.{written_none}
+use Rattle.allotment.specs.Allotment.{free, schedule_of}
+use Rattle.masks.specs.Bytes.{masks_size, masks_in, has_room}
+use Rattle.masks.specs.Air.{owners_to}
+use Rattle.node.specs.Core.{node_of, pair}
+use Rattle.node.specs.Figures.{sending}
+use Rattle.node.specs.Distribution.{sent_by}
+use Rattle.node.specs.declared.Answer.TheVariants.{Done}
+use Rattle.node.specs.declared.Core.{Core}
+use Rattle.node.specs.Model.{Node}
+use Rattle.node.specs.Model.{Versioned}
+use Rattle.node.proofs.Made.{sends-so}
+use Rattle.wire.specs.Layout.{schedule_size, schedule_bytes}
+use Rattle.area.specs.Area.{at_schedule}
+use Rattle.host.specs.Calls.{room_answer, output, close_room, close_bytes}
+use Rattle.host.proofs.Answers.{in-room}
+use borrow.Author.Rules.{rules}
+use Rattle.host.proofs.steps.put_sent.Goals as goal
+
+-- the node that is told, by the area that holds its schedule
+abbrev shown : Core → List ℕ → Node
+shown c l = node_of c (pair (schedule_of (owners_to (masks_in l at_schedule) c.setup.config.nodes)) free)
+
+pub returns-then-not-is_sending : goal.returns-then-not-is_sending
+returns-then-not-is_sending c =
+    silent (shown c.args.next c.args.area.now) c.args.out.now
+    (sym c.is_sending.ensures ∙ c.if-not-is_sending.true)
+
+pub returns : goal.returns
+returns c =
+    let l = c.args.area.now in
+    let k : at_schedule + masks_size ≤ length l = omega (arith, c.requires) in
+    let r : has_room l at_schedule ≡ true = le-leb _ _ k in
+    let t = leb schedule_size (length c.args.out.now) in
+    let q : Versioned = record { version = c.args.next.version; schedule = (shown c.args.next l).schedule } in
+    sends (shown c.args.next l) c.args.out.now
+    (sym c.is_sending.ensures
+    ∙ c.if-not-is_sending.false)
+    (sym (sends-so (shown c.args.next l)))
+    (c.tell.ensures
+    ∙ ap (λ (b : Bool). cond (b && t) (written c.args.out.now 0 (schedule_bytes q)) c.args.out.now) r)

@@ -1,0 +1,57 @@
+use mathlib.Core.Bool.{Bool, true, false, cond}
+use mathlib.Core.List.{List}
+use mathlib.Core.Path.{◌≡◌, sym, ap, ◌∙◌}
+use Prim.Native.Nat.{ℕ}
+use borrow.Author.Tests.{not-true, not-false}
+use Rattle.node.specs.Answers.{is_done}
+use Rattle.node.specs.Core.{bare}
+use Rattle.node.specs.Negotiation.{packet_of, send_answer}
+use Rattle.node.specs.declared.Answer.{Answer}
+use Rattle.node.specs.declared.Answer.TheVariants.{Done, NoRoom}
+use Rattle.node.specs.Model.{Node}
+use Rattle.node.specs.declared.Packet.{Packet}
+use Rattle.node.specs.declared.Sent.{Sent}
+use Rattle.node.proofs.Bare.{send-phase}
+use Rattle.wire.specs.Layout.{packet_size, packet_bytes}
+use Rattle.wire.specs.Reads.{placed, has_part}
+use Rattle.host.specs.Calls.{room_answer, output, sent_answer}
+use Rattle.host.proofs.Answers.{then_next, then-stands, refusal, in-room}
+use borrow.Author.Rules.{rules}
+use Rattle.host.proofs.steps.send_into.Goals as goal
+
+pub returns-then-not-is_done : goal.returns-then-not-is_done
+returns-then-not-is_done c =
+    let whole = refused-send (bare c.args.c) c.args.out.now
+    (c.negotiation_answer-answer.ensures ∙ sym (send-phase (bare c.args.c)))
+    (sym c.is_done.ensures ∙ c.if-not-is_done.true) in record {
+      value = whole.0;
+      out_after = whole.1;
+    }
+
+pub returns-then-not-put_packet : goal.returns-then-not-put_packet
+returns-then-not-put_packet c =
+    let w = c.put_packet.ensures in
+    let whole = sends (bare c.args.c) c.args.out.now
+    (c.negotiation_answer-answer.ensures
+    ∙ sym (send-phase (bare c.args.c)))
+    (sym c.is_done.ensures
+    ∙ c.if-not-is_done.false)
+    (ap (λ (s : Sent). s.packet) c.send-s.ensures) w.value w.area_after
+    (c.if-not-put_packet.true) in record {
+      value = whole.0;
+      out_after = whole.1;
+    }
+
+pub returns : goal.returns
+returns c =
+    let w = c.put_packet.ensures in
+    let whole = sends (bare c.args.c) c.args.out.now
+    (c.negotiation_answer-answer.ensures
+    ∙ sym (send-phase (bare c.args.c)))
+    (sym c.is_done.ensures
+    ∙ c.if-not-is_done.false)
+    (ap (λ (s : Sent). s.packet) c.send-s.ensures) w.value w.area_after
+    (c.if-not-put_packet.false) in record {
+      value = whole.0;
+      out_after = whole.1;
+    }

@@ -1,0 +1,15 @@
+use Rattle.lists.proofs.Laws.{all_none, all_more, all_end}
+use Rattle.lists.specs.All.{at_most, all_below}
+use lib.ListN.{length, get_or}
+use lib.Dec.{leb}
+use mathlib.Core.Path.{◌≡◌, refl, ap}
+use Prim.Native.Nat.{ℕ, ◌≤◌, ◌-◌}
+use native.Mathlib.Omega.{arith}
+use borrow.Author.Rules.{rules}
+use Rattle.lists.proofs.all_at_most.Given as goal
+
+abbrev pub invariant-loop-i : goal.invariant-loop-i
+invariant-loop-i l = (l.i ≤ length l.s) × (l.n ≡ length l.s) × (l.ok ≡ all_below l.i (λ j. leb (get_or l.s j 0) l.top))
+
+abbrev pub decreases-loop-i : goal.decreases-loop-i
+decreases-loop-i l = length l.s - l.i

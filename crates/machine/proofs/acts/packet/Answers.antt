@@ -1,0 +1,38 @@
+use mathlib.Core.Path.{refl, sym, ap, ◌∙◌}
+use Prim.Native.Nat.{◌-◌}
+use Rattle.words.proofs.Tests.{hit, skip}
+use Rattle.node.specs.Negotiation.{packet_of}
+use Rattle.node.specs.Core.{bare}
+use Rattle.node.specs.declared.Core.{Core}
+use Rattle.node.specs.declared.Sent.{Sent}
+use Rattle.node.proofs.Bare.{packet-bare}
+use Rattle.machine.specs.Inner.{core_in}
+use Rattle.machine.specs.Layout.{store, config_in, node_in}
+use Rattle.machine.specs.Acts.{packet_sent}
+use Rattle.machine.proofs.Seats.{at-node-index}
+use Rattle.machine.proofs.Whole.{at_place}
+use borrow.Author.Rules.{rules}
+use Rattle.machine.proofs.acts.packet.Goals as goal
+
+pub returns-then-no_node : goal.returns-then-no_node
+unfolding packet_sent
+returns-then-no_node c =
+    c.no_packet.ensures ∙ sym (hit _ _ _ (sym c.no_node.ensures ∙ c.if-no_node.true))
+
+pub core_at-c-requires : goal.core_at-c-requires
+core_at-c-requires c =
+    let a = c.args in
+    let s = store a.words.now a.bytes.now in
+    let h = at_place s a.j (sym c.no_node.ensures ∙ c.if-no_node.false) in
+    (c.node_index.ensures.within, h.0, h.1.0)
+
+pub returns : goal.returns
+unfolding packet_sent
+returns c =
+    let a = c.args in
+    let s = store a.words.now a.bytes.now in
+    let p = sym c.no_node.ensures ∙ c.if-no_node.false in
+    let e = at-node-index (config_in s) a.j c.node_index.ensures.value (at_place s a.j p).1.1 in
+    ap (λ (x : Sent). x.packet) c.send-s.ensures
+    ∙ ap (λ (x : Core). packet_of (bare x)) (c.core_at-c.ensures ∙ ap (core_in s) e) ∙ packet-bare (node_in s (a.j - 1))
+    ∙ sym (skip _ _ _ _ p refl)

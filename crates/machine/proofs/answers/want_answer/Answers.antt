@@ -1,0 +1,37 @@
+use mathlib.Core.Path.{◌≡◌, refl, sym, ap, ◌∙◌}
+use mathlib.Core.Bool.{Bool, true, false, cond}
+use lib.Dec.{ltb}
+use borrow.Author.Tests.{not-true, not-false}
+use borrow.Author.Rules.{rules}
+use Rattle.words.proofs.Tests.{never}
+use Rattle.allotment.specs.Allotment.{top_request}
+use Rattle.node.specs.Answers.{is_done}
+use Rattle.node.specs.declared.Answer.{Answer}
+use Rattle.node.specs.declared.Answer.TheVariants.{Done, OutOfRange}
+use Rattle.node.proofs.Bounds.{want-so}
+use Rattle.site.specs.Answers.{site_want, site_crash}
+use Rattle.machine.proofs.answers.want_answer.Goals as goal
+
+-- the demand's own test first, then the rest
+refused : (t : Bool) (x : Answer) → is_done (cond t OutOfRange Done) ≡ false → cond t OutOfRange Done ≡ cond t OutOfRange x
+refused true x f = refl
+refused false x f = never f
+
+passed : (t : Bool) (x : Answer) → is_done (cond t OutOfRange Done) ≡ true → x ≡ cond t OutOfRange x
+passed true x f = never (sym f)
+passed false x f = refl
+
+pub returns-then-not-is_done : goal.returns-then-not-is_done
+unfolding site_want
+returns-then-not-is_done c =
+    let d = c.args.d in
+    let y = c.want_answer-first.ensures ∙ want-so d in
+    y ∙ refused (ltb top_request d) _ (sym (ap is_done y) ∙ sym c.is_done.ensures ∙ c.if-not-is_done.true)
+
+pub returns : goal.returns
+unfolding site_want site_crash
+returns c =
+    let d = c.args.d in
+    let y = c.want_answer-first.ensures ∙ want-so d in
+    c.crash_answer.ensures ∙ passed (ltb top_request d) _
+    (sym (ap is_done y) ∙ sym c.is_done.ensures ∙ c.if-not-is_done.false)

@@ -1,0 +1,121 @@
+-- Each arm is its event's own contract, with the event known from the match; what an arm does not lend stays as it was.
+use mathlib.Core.Path.{◌≡◌, refl, sym, ap, ◌∙◌}
+use mathlib.Core.List.{List}
+use Prim.Native.Nat.{ℕ, ◌-◌}
+use Rattle.machine.specs.Layout.{Store, store, site_in}
+use Rattle.machine.proofs.Whole.{as-closed, as-ended}
+use Rattle.machine.specs.steps.After.{next_store, sent_store, wanted_store}
+use Rattle.node.specs.declared.Answer.TheVariants.{Done}
+use Rattle.site.specs.Answers.{event_answer}
+use Rattle.site.specs.Steps.{next_area}
+use Rattle.site.specs.declared.Event.{Event}
+use borrow.Author.Rules.{rules}
+use Rattle.machine.proofs.events.apply.Goals as goal
+
+pub send-requires : goal.send-requires
+send-requires c =
+    let s = store c.args.words.now c.args.bytes.now in
+    (c.requires.0, c.requires.1, accepted s c.args.area.now c.in-Send.is c.requires.2)
+
+pub hear-requires : goal.hear-requires
+hear-requires c =
+    let s = store c.args.words.now c.args.bytes.now in
+    (c.requires.0, c.requires.1, accepted s c.args.area.now c.in-Hear.is c.requires.2)
+
+pub take-requires : goal.take-requires
+take-requires c =
+    let s = store c.args.words.now c.args.bytes.now in
+    (c.requires.0, c.requires.1, accepted s c.args.area.now c.in-Take.is c.requires.2)
+
+pub want-requires : goal.want-requires
+want-requires c =
+    let s = store c.args.words.now c.args.bytes.now in
+    (c.requires.0, c.requires.1, accepted s c.args.area.now c.in-Want.is c.requires.2)
+
+pub crash-requires : goal.crash-requires
+crash-requires c =
+    let s = store c.args.words.now c.args.bytes.now in
+    (c.requires.0, c.requires.1, accepted s c.args.area.now c.in-Crash.is c.requires.2)
+
+pub restart-requires : goal.restart-requires
+restart-requires c =
+    let s = store c.args.words.now c.args.bytes.now in
+    (c.requires.0, c.requires.1, accepted s c.args.area.now c.in-Restart.is c.requires.2)
+
+pub returns-in-Send : goal.returns-in-Send
+unfolding sent_store
+returns-in-Send c =
+    let s = store c.args.words.now c.args.bytes.now in
+    let whole = done s c.args.area.now c.in-Send.is refl c.send.ensures.bytes_after c.send.ensures.area_after in record {
+      words_after = whole.0;
+      bytes_after = whole.1;
+      area_after = whole.2;
+    }
+
+pub returns-in-Hear : goal.returns-in-Hear
+returns-in-Hear c =
+    let s = store c.args.words.now c.args.bytes.now in
+    let whole = done s c.args.area.now c.in-Hear.is c.hear.ensures.words_after c.hear.ensures.bytes_after refl in record {
+      words_after = whole.0;
+      bytes_after = whole.1;
+      area_after = whole.2;
+    }
+
+pub returns-in-Close : goal.returns-in-Close
+returns-in-Close c =
+    let s = store c.args.words.now c.args.bytes.now in
+    let h = as-closed s c.requires.0 c.requires.1 in
+    let whole = done s c.args.area.now c.in-Close.is (c.close.ensures.words_after ∙ ap (λ (x : Store). x.words) h)
+    (c.close.ensures.bytes_after ∙ ap (λ (x : Store). x.bytes) h) refl in record {
+      words_after = whole.0;
+      bytes_after = whole.1;
+      area_after = whole.2;
+    }
+
+pub returns-in-Take : goal.returns-in-Take
+returns-in-Take c =
+    let s = store c.args.words.now c.args.bytes.now in
+    let whole = done s c.args.area.now c.in-Take.is c.take.ensures.words_after c.take.ensures.bytes_after refl in record {
+      words_after = whole.0;
+      bytes_after = whole.1;
+      area_after = whole.2;
+    }
+
+pub returns-in-End : goal.returns-in-End
+returns-in-End c =
+    let s = store c.args.words.now c.args.bytes.now in
+    let h = as-ended s c.requires.0 c.requires.1 in
+    let whole = done s c.args.area.now c.in-End.is (c.end.ensures.words_after ∙ ap (λ (x : Store). x.words) h)
+    (c.end.ensures.bytes_after ∙ ap (λ (x : Store). x.bytes) h) refl in record {
+      words_after = whole.0;
+      bytes_after = whole.1;
+      area_after = whole.2;
+    }
+
+pub returns-in-Want : goal.returns-in-Want
+unfolding wanted_store
+returns-in-Want c =
+    let s = store c.args.words.now c.args.bytes.now in
+    let whole = done s c.args.area.now c.in-Want.is refl c.want.ensures refl in record {
+      words_after = whole.0;
+      bytes_after = whole.1;
+      area_after = whole.2;
+    }
+
+pub returns-in-Crash : goal.returns-in-Crash
+returns-in-Crash c =
+    let s = store c.args.words.now c.args.bytes.now in
+    let whole = done s c.args.area.now c.in-Crash.is c.crash.ensures.words_after c.crash.ensures.bytes_after refl in record {
+      words_after = whole.0;
+      bytes_after = whole.1;
+      area_after = whole.2;
+    }
+
+pub returns-in-Restart : goal.returns-in-Restart
+returns-in-Restart c =
+    let s = store c.args.words.now c.args.bytes.now in
+    let whole = done s c.args.area.now c.in-Restart.is c.restart.ensures.words_after c.restart.ensures.bytes_after refl in record {
+      words_after = whole.0;
+      bytes_after = whole.1;
+      area_after = whole.2;
+    }

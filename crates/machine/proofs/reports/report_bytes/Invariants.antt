@@ -1,0 +1,14 @@
+use mathlib.Core.List.{List, ◌++◌}
+use mathlib.Core.Path.{◌≡◌}
+use Prim.Native.Nat.{ℕ, ◌≤◌, ◌-◌, ◌/◌, ◌%◌}
+use native.Mathlib.Omega.{arith}
+use lib.ListN.{length, drop, get_or}
+use borrow.Author.Rules.{rules}
+use Rattle.lists.specs.All.{tab}
+use Rattle.lists.proofs.Laws.{fill_none, fill_more, fill_end}
+use Rattle.machine.specs.reports.Reports.{no_node_report, report_byte, report_bytes}
+use Rattle.machine.specs.declared.NodeReport.{NodeReport}
+use Rattle.machine.proofs.reports.report_bytes.Given as goal
+
+abbrev pub invariant-loop-k : goal.invariant-loop-k
+invariant-loop-k l = (l.k ≤ 64) × (length l.initial.l ≡ 64) × (l.l ≡ tab l.k (each l.nodes) ++ drop l.k l.initial.l)

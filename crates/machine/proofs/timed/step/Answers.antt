@@ -1,0 +1,17 @@
+use Rattle.windows.specs.Copies.{windows_in}
+use Rattle.machine.specs.Layout.{store}
+use Rattle.machine.proofs.timed.Known.{by-list}
+use borrow.Author.Rules.{rules}
+use Rattle.machine.proofs.timed.step.Goals as goal
+
+pub returns : goal.returns
+returns c =
+    let a = c.args in
+    let whole = by-list (store a.words.now a.bytes.now) a.day a.area.now (windows_in a.w.now) a.e c.tested-ok.ensures
+    c.step_tested.ensures in record {
+      value = whole.0;
+      words_after = whole.1;
+      bytes_after = whole.2;
+      bytes_after_2 = whole.3;
+      area_after = whole.4;
+    }

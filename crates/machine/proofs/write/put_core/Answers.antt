@@ -1,0 +1,9 @@
+use Prim.Native.Nat.{◌-◌}
+use borrow.Author.Rules.{rules}
+use Rattle.machine.proofs.write.put_core.Goals as goal
+
+pub returns : goal.returns
+returns c = record {
+  words_after = c.put_row.ensures;
+  bytes_after = c.put_front.ensures;
+}

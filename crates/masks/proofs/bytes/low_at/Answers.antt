@@ -1,0 +1,38 @@
+use mathlib.Core.Path.{sym, ◌∙◌}
+use Prim.Native.Nat.{◌≤◌, ◌+◌}
+use native.Mathlib.Omega.{arith}
+use borrow.Author.Rules.{rules}
+use borrow.Author.Tests.{not-true, not-false, leb-true, le-leb}
+use lib.Dec.{leb}
+use lib.ListN.{length}
+use Rattle.words.proofs.Tests.{hit, skip}
+use Rattle.masks.specs.Bytes.{masks_size}
+use Rattle.masks.proofs.Rows.{low_read, low-past}
+use Rattle.masks.proofs.bytes.low_at.Goals as goal
+
+pub returns-then-not-has_room : goal.returns-then-not-has_room
+returns-then-not-has_room c =
+    let a = c.args in
+    sym (skip (leb (a.at + masks_size) (length a.s.now)) _ _ _ (sym c.has_room.ensures ∙ c.if-not-has_room.true)
+    (λ _. 0))
+
+room : (c : goal.Else-not-has_room) → c.args.at + masks_size ≤ length c.args.s.now
+room c = leb-true _ _ (sym c.has_room.ensures ∙ c.if-not-has_room.false)
+
+pub overflow_add-at : goal.overflow_add-at
+overflow_add-at c = omega (arith, room c)
+
+pub long_word-requires : goal.long_word-requires
+long_word-requires c = omega (arith, room c, c.if-i-lt32.true)
+
+pub returns-then-i-lt32 : goal.returns-then-i-lt32
+returns-then-i-lt32 c =
+    let a = c.args in
+    c.long_word.ensures ∙ low_read a.s.now a.at a.i (omega (arith, c.if-i-lt32.true))
+    ∙ sym (hit (leb (a.at + masks_size) (length a.s.now)) _ _ (le-leb _ _ (room c)))
+
+pub returns : goal.returns
+returns c =
+    let a = c.args in
+    sym (hit (leb (a.at + masks_size) (length a.s.now)) _ _ (le-leb _ _ (room c))
+    ∙ low-past a.s.now a.at a.i (omega (arith, c.if-i-lt32.false)))

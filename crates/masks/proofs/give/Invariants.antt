@@ -1,0 +1,18 @@
+use mathlib.Core.Path.{◌≡◌, refl, sym, ap, ◌∙◌}
+use Prim.Native.Nat.{◌/◌, ◌^◌, ℕ, ◌≤◌, ◌<◌, ◌-◌, ◌+◌}
+use native.Mathlib.Nat.{div-one}
+use native.Mathlib.Omega.{arith}
+use borrow.Author.Rules.{rules}
+use lib.ListN.{length, length-set, get_or}
+use lib.Count.{count_trailing_zeros}
+use lib.Pow.{shr_le}
+use Rattle.masks.proofs.Turns.{Next, next_bit, so_far, give-none, give-turn, give-end}
+use Rattle.masks.proofs.give.Given as goal
+
+abbrev pub invariant-loop-rest : goal.invariant-loop-rest
+invariant-loop-rest l =
+    (l.from ≤ l.at) × (l.at ≤ length l.initial.owners) × (l.w < 2 ^ (length l.initial.owners - l.from)) × (l.rest ≡ l.w / 2 ^ (l.at - l.from))
+    × (length l.owners ≡ length l.initial.owners) × ((k : ℕ) → get_or l.owners k 0 ≡ so_far l.initial.owners l.from l.w l.j l.at k)
+
+abbrev pub decreases-loop-rest : goal.decreases-loop-rest
+decreases-loop-rest l = length l.initial.owners - l.at

@@ -1,0 +1,12 @@
+use mathlib.Core.Path.{◌≡◌, refl, sym, ap, ◌∙◌}
+use Prim.Native.Nat.{ℕ, ◌≤◌, ◌-◌}
+use native.Mathlib.Omega.{arith}
+use borrow.Author.Rules.{rules}
+use Rattle.words.proofs.Tests.{both}
+use Rattle.membership.specs.requests.Requests.{lacks, first_with, lowest_missing}
+use Rattle.membership.proofs.requests.Laws.{first-here, first-behind, first-none}
+use Rattle.membership.proofs.requests.lowest_missing.Given as goal
+
+-- No node before the i-th is missing.
+abbrev pub invariant-loop-i : goal.invariant-loop-i
+invariant-loop-i l = (l.i ≤ 32) × (lowest_missing l.w l.l ≡ first_with (32 - l.i) l.i (lacks l.w l.l))

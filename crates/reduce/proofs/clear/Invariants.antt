@@ -1,0 +1,12 @@
+use mathlib.Core.Path.{◌≡◌, refl, ◌∙◌}
+use Prim.Native.Nat.{◌≤◌, ◌-◌, ◌+◌}
+use native.Mathlib.Omega.{arith}
+use lib.ListN.{length, set, length-set}
+use Rattle.lists.specs.All.{iter}
+use Rattle.lists.proofs.Laws.{iter-none, iter_end}
+use Rattle.reduce.proofs.Marks.{clear-more}
+use Rattle.reduce.proofs.clear.Given as goal
+
+abbrev pub invariant-loop-i : goal.invariant-loop-i
+invariant-loop-i l = (l.lo ≤ l.i) × (l.i - l.lo ≤ l.hi - l.lo) × (length l.marks ≡ length l.initial.marks)
+    × (l.marks ≡ iter (l.i - l.lo) (λ k l. set l (l.lo + k) 0) l.initial.marks)

@@ -1,0 +1,5 @@
+use borrow.Author.Rules.{rules}
+use Rattle.script.proofs.events.make.Goals as goal
+
+pub returns-in-Pair : goal.returns-in-Pair
+returns-in-Pair c = rw c.in-Pair.is c.event_at.ensures

@@ -1,0 +1,21 @@
+use Rattle.text.specs.Read.{number_of}
+use mathlib.Core.Path.{ap₂, sym, ◌∙◌}
+use Rattle.script.specs.lines.Fields.{with5, four_of, five_of, three_of}
+use Rattle.script.proofs.lines.Fields.{five-none, five-is}
+use lib.Seq.{length-take-le}
+use Rattle.text.proofs.Pieces.{last-piece}
+use borrow.Author.Rules.{rules}
+use Rattle.script.proofs.lines.five_numbers.Goals as goal
+
+pub returns-then-e-s : goal.returns-then-e-s
+unfolding five_of four_of three_of
+returns-then-e-s c = rw (last-piece 32 _ _ c.find-e.ensures.value c.if-e-s.true)
+    (sym (five-none (number_of c.args.s.now)))
+
+pub slice_bounds-number-end : goal.slice_bounds-number-end
+slice_bounds-number-end c = sym (length-take-le _ _ c.find-e.ensures.within)
+
+pub returns : goal.returns
+returns c =
+    c.quint.ensures ∙ ap₂ with5 c.number.ensures c.four_numbers.ensures ∙ sym
+    (five-is _ _ c.find-e.ensures.value c.find-e.ensures.within c.if-e-s.false)

@@ -1,0 +1,21 @@
+use Rattle.text.specs.Read.{number_of}
+use mathlib.Core.Path.{ap₂, sym, ◌∙◌}
+use Rattle.script.specs.lines.Fields.{with4, three_of, four_of}
+use Rattle.script.proofs.lines.Fields.{four-none, four_is}
+use lib.Seq.{length-take-le}
+use Rattle.text.proofs.Pieces.{last-piece}
+use borrow.Author.Rules.{rules}
+use Rattle.script.proofs.lines.four_numbers.Goals as goal
+
+pub returns-then-e-s : goal.returns-then-e-s
+unfolding four_of three_of
+returns-then-e-s c = rw (last-piece 32 _ _ c.find-e.ensures.value c.if-e-s.true)
+    (sym (four-none (number_of c.args.s.now)))
+
+pub slice_bounds-number-end : goal.slice_bounds-number-end
+slice_bounds-number-end c = sym (length-take-le _ _ c.find-e.ensures.within)
+
+pub returns : goal.returns
+returns c =
+    c.quad.ensures ∙ ap₂ with4 c.number.ensures c.three_numbers.ensures ∙ sym
+    (four_is _ _ c.find-e.ensures.value c.find-e.ensures.within c.if-e-s.false)

@@ -1,0 +1,5 @@
+use borrow.Author.Rules.{rules}
+use Rattle.script.proofs.lines.pair.Goals as goal
+
+pub returns-in-Value-b : goal.returns-in-Value-b
+returns-in-Value-b c = cc

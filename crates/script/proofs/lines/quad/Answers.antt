@@ -1,0 +1,5 @@
+use borrow.Author.Rules.{rules}
+use Rattle.script.proofs.lines.quad.Goals as goal
+
+pub returns-in-Triple : goal.returns-in-Triple
+returns-in-Triple c = cc

@@ -1,0 +1,23 @@
+use lib.ListN.{drop}
+use Rattle.text.specs.Read.{split}
+use Rattle.node.specs.declared.Answer.TheVariants.{BadNames, OutOfRange}
+use Rattle.script.specs.load.Opening.{empty_table, table_lines}
+use Rattle.script.specs.load.Inner.{from_events}
+use Rattle.script.proofs.lines.Lines.{whole}
+use Rattle.script.proofs.load.Laws.{reads-refused, reads_same, rows_none, rows-missing, rows-open, rows-bad, rows-good, then-refused}
+use Rattle.script.proofs.load.Laws.{then-got}
+use Rattle.site.specs.declared.Table.{Table}
+use mathlib.Core.Path.{◌≡◌, refl, sym, ap, ◌∙◌}
+use Prim.Native.Nat.{◌≤◌, ◌-◌, ◌+◌}
+use native.Mathlib.Omega.{arith}
+use borrow.Author.Rules.{rules}
+use Rattle.script.proofs.load.from_rows.Given as goal
+
+-- The rows still to come, read into the table so far, come to what all the rows come to; each way out of the loop is a law of `table_lines`
+-- for the line found.
+abbrev pub invariant-loop-i : goal.invariant-loop-i
+invariant-loop-i l = (l.i ≤ l.n) × (l.n ≤ 32) × (table_lines l.f l.n 0 4 empty_table (split 10 (drop l.from l.s))
+    ≡ table_lines l.f (l.n - l.i) l.i (4 + l.i) l.t (split 10 (drop l.at l.s)))
+
+abbrev pub decreases-loop-i : goal.decreases-loop-i
+decreases-loop-i l = l.n - l.i

@@ -1,0 +1,43 @@
+-- Three numbers that make no event are answered by themselves; an event goes to its step.
+use mathlib.Core.Path.{sym, ◌∙◌}
+use Rattle.script.specs.events.Events.{event_at}
+use Rattle.windows.specs.Copies.{windows_in}
+use Rattle.sites.specs.many.Memory.{memory, lent}
+use Rattle.sites.proofs.many.Lines.{no_line, good-line}
+use borrow.Author.Rules.{rules}
+use Rattle.sites.proofs.many.event_with.Goals as goal
+
+pub returns-in-Malformed : goal.returns-in-Malformed
+returns-in-Malformed c =
+    let a = c.args
+    in
+    let m = memory a.words.now a.bytes.now a.table.now in
+    let v = lent (windows_in a.w.now) a.t a.out.now in
+    let whole = no_line m a.area.now a.a v (event_at a.event a.node a.with)
+    (sym c.in-Malformed.is
+    ∙ c.event_at-p.ensures) c.no_event.ensures in record {
+      value = whole.0;
+      words_after = whole.1;
+      bytes_after = whole.2;
+      table_after = whole.3;
+      area_after = whole.4;
+      out_after = whole.5;
+      area_after_2 = whole.6;
+    }
+
+pub returns-in-Good : goal.returns-in-Good
+returns-in-Good c =
+    let a = c.args in
+    let m = memory a.words.now a.bytes.now a.table.now in
+    let v = lent (windows_in a.w.now) a.t a.out.now in
+    let whole = good-line m a.area.now a.a v (event_at a.event a.node a.with) _
+    (sym c.in-Good.is ∙ c.event_at-p.ensures)
+    c.step.ensures in record {
+      value = whole.0;
+      words_after = whole.1;
+      bytes_after = whole.2;
+      table_after = whole.3;
+      area_after = whole.4;
+      out_after = whole.5;
+      area_after_2 = whole.6;
+    }

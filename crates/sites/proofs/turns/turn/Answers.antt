@@ -1,0 +1,119 @@
+-- What is lent is tested first; then the event is a send, a hear or another.
+use mathlib.Core.Path.{◌≡◌, sym, ap, ◌∙◌, subst}
+use Rattle.node.specs.declared.Answer.{Answer}
+use Rattle.site.specs.declared.Event.{Event}
+use Rattle.site.specs.declared.Event.TheVariants.{Send, Hear}
+use Rattle.machine.specs.Layout.{store}
+use Rattle.windows.specs.Copies.{windows_in}
+use Rattle.sites.specs.many.Memory.{lent}
+use Rattle.sites.specs.many.Inner.{one_site, own_area_of, send_number, send_store, send_places, send_area, group_hear_answer, hear_store}
+use Rattle.sites.specs.declared.Part.{Part}
+use Rattle.sites.proofs.many.Events.{DayAnswer, room, whole, whole_is, neither-is, room-turn, send-turn, hear-turn, unfull}
+use Rattle.node.specs.Answers.{number}
+use borrow.Author.Rules.{rules}
+use Rattle.sites.proofs.turns.turn.Goals as goal
+
+pub returns-then-too_few : goal.returns-then-too_few
+returns-then-too_few c =
+    let a = c.args in
+    let x = one_site (store a.words.now a.bytes.now) a.day a.a a.list.now a.area.now in
+    let v = lent (windows_in a.w.now) a.t a.out.now in
+    let whole = room-turn x a.full v a.e (sym c.too_few.ensures ∙ c.if-too_few.true) c.code-code.ensures in record {
+      value = whole.0;
+      words_after = whole.1;
+      bytes_after = whole.2;
+      list_after = whole.3;
+      area_after = whole.4;
+      out_after = whole.5;
+      bytes_after_2 = whole.6;
+    }
+
+pub send-code-requires : goal.send-code-requires
+send-code-requires c =
+    let a = c.args in
+    let p = c.requires in
+    let x = one_site (store a.words.now a.bytes.now) a.day a.a a.list.now a.area.now in
+    let v = lent (windows_in a.w.now) a.t a.out.now in
+    (p.0, p.1, p.2, room x v (sym c.too_few.ensures ∙ c.if-too_few.false), p.3)
+
+pub hear-code-requires : goal.hear-code-requires
+hear-code-requires c =
+    c.requires
+
+pub other-requires : goal.other-requires
+other-requires c =
+    let a = c.args in
+    let n = neither-is a.e (sym c.taken_apart-k.ensures ∙ c.in-Neither.is) in
+    (sym c.too_few.ensures ∙ c.if-too_few.false, n.0, n.1)
+
+pub returns-in-Sends : goal.returns-in-Sends
+returns-in-Sends c =
+    let a = c.args in
+    let x = one_site (store a.words.now a.bytes.now) a.day a.a a.list.now a.area.now in
+    let v = lent (windows_in a.w.now) a.t a.out.now in
+    let few = sym c.too_few.ensures ∙ c.if-too_few.false in
+    let k = c.k-1.given in
+    let j = k.0.0 in
+    let e : Send j ≡ a.e = ap (λ (y : Part). whole y a.e) (sym k.1 ∙ c.taken_apart-k.ensures) ∙ whole_is a.e in
+    let s = c.send-code in
+    let o = s.ensures in
+    let q = c.listed-o.ensures in
+    let whole = subst (λ (e : Event). DayAnswer x a.full v e (record { code = s.result; day = a.day; tally = a.t })
+    a.words.now s.new.bytes
+    s.new.list s.new.area a.out.now) e
+    (send-turn x v few a.full j (o.0 ∙ ap (λ (z : Answer). send_number x.store z a.full j) q)
+    (o.1.0 ∙ ap (λ (z : Answer). (send_store x.store z a.full j).bytes) q)
+    (o.1.1.0 ∙ ap (λ (z : Answer). send_places x.store z a.full j a.a a.list.now) q)
+    (o.1.1.1 ∙ ap (λ (z : Answer). send_area x.store z a.full j a.list.now a.area.now) q)) in record {
+      value = whole.0;
+      words_after = whole.1;
+      bytes_after = whole.2;
+      list_after = whole.3;
+      area_after = whole.4;
+      out_after = whole.5;
+      bytes_after_2 = whole.6;
+    }
+
+pub returns-in-Hears : goal.returns-in-Hears
+returns-in-Hears c =
+    let a = c.args in
+    let x = one_site (store a.words.now a.bytes.now) a.day a.a a.list.now a.area.now in
+    let v = lent (windows_in a.w.now) a.t a.out.now in
+    let few = sym c.too_few.ensures ∙ c.if-too_few.false in
+    let k = c.k-in-Hears-1.given in
+    let j = k.0.0 in
+    let p = k.0.1.0 in
+    let e : Hear j p ≡ a.e = ap (λ (y : Part). whole y a.e) (sym k.1 ∙ c.taken_apart-k.ensures) ∙ whole_is a.e in
+    let s = c.hear-code in
+    let o = s.ensures in
+    let q = c.listed-o-in-Hears.ensures in
+    let whole = subst (λ (e : Event). DayAnswer x a.full v e (record { code = s.result; day = a.day; tally = a.t }) s.new.words s.new.bytes
+    a.list.now a.area.now a.out.now) e
+    (hear-turn x v few a.full j p
+    (o.0 ∙ ap (λ (z : Answer). number (group_hear_answer x.store (own_area_of x) z j p)) q)
+    (o.1.0 ∙ ap (λ (z : Answer). (hear_store x.store (own_area_of x) z j p).words) q)
+    (o.1.1 ∙ ap (λ (z : Answer). (hear_store x.store (own_area_of x) z j p).bytes) q)) in record {
+      value = whole.0;
+      words_after = whole.1;
+      bytes_after = whole.2;
+      list_after = whole.3;
+      area_after = whole.4;
+      out_after = whole.5;
+      bytes_after_2 = whole.6;
+    }
+
+pub returns-in-Neither : goal.returns-in-Neither
+returns-in-Neither c =
+    let a = c.args in
+    let x = one_site (store a.words.now a.bytes.now) a.day a.a a.list.now a.area.now in
+    let v = lent (windows_in a.w.now) a.t a.out.now in
+    let n = neither-is a.e (sym c.taken_apart-k.ensures ∙ c.in-Neither.is) in
+    let whole = unfull x v a.full a.e n.0 c.other.ensures in record {
+      value = whole.0;
+      words_after = whole.1;
+      bytes_after = whole.2;
+      list_after = whole.3;
+      area_after = whole.4;
+      out_after = whole.5;
+      bytes_after_2 = whole.6;
+    }

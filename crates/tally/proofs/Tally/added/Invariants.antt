@@ -1,0 +1,22 @@
+use mathlib.Core.Path.{◌≡◌, refl, ap, ◌∙◌}
+use Prim.Native.Nat.{ℕ, ◌≤◌, ◌-◌, ◌+◌, ◌*◌}
+use native.Mathlib.Omega.{arith}
+use mathlib.Core.List.{◌++◌}
+use lib.Dec.{ltb}
+use lib.ListN.{length, drop, get_or}
+use Rattle.words.specs.Bits.{digit}
+use Rattle.lists.specs.All.{tab}
+use Rattle.lists.proofs.Laws.{fill_none, fill_more, fill_end}
+use Rattle.tally.specs.Claims.{sum as summed}
+use Rattle.tally.specs.Counting.{slots_at, held_at, added_by}
+use Rattle.tally.proofs.Sums.{digit-le, sum-none, sum_more}
+use Rattle.tally.proofs.Valid.{valid, slots-most, total-most}
+use borrow.Author.Rules.{rules}
+use Rattle.tally.proofs.Tally.added.Given as goal
+
+abbrev pub invariant-loop-i : goal.invariant-loop-i
+invariant-loop-i l =
+    (l.i ≤ 32) × (length l.initial.slots ≡ 32) × (length l.initial.held ≡ 32)
+    × (l.slots ≡ tab l.i (λ j. slots_at l.self j + get_or l.numbers j 0) ++ drop l.i l.initial.slots)
+    × (l.held ≡ tab l.i (λ j. held_at l.self j + digit (ltb 0 (get_or l.numbers j 0))) ++ drop l.i l.initial.held)
+    × (l.total ≡ l.self.total + summed l.i (λ j. get_or l.numbers j 0)) × (l.total ≤ l.self.total + 255 * l.i)

@@ -1,0 +1,14 @@
+use lib.ListN.{length, drop}
+use Rattle.text.specs.Read.{before}
+use Rattle.text.proofs.Pieces.{before_here, before_more, before-end}
+use borrow.Author.Rules.{rules}
+use mathlib.Core.Path.{◌≡◌}
+use Prim.Native.Nat.{◌≤◌, ◌<◌, ◌-◌, ◌+◌}
+use native.Mathlib.Omega.{arith}
+use Rattle.text.proofs.find.Given as goal
+
+abbrev pub invariant-loop-i : goal.invariant-loop-i
+invariant-loop-i l = (l.i ≤ length l.s) × (before l.c l.s ≡ l.i + before l.c (drop l.i l.s))
+
+abbrev pub decreases-loop-i : goal.decreases-loop-i
+decreases-loop-i l = length l.s - l.i

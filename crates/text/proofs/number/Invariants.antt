@@ -1,0 +1,14 @@
+use lib.ListN.{length, drop}
+use Rattle.text.specs.Read.{number_of, digits_from}
+use Rattle.text.proofs.Pieces.{number-none, number-zero, number-leading, number_digits, digits_low, digits-high, digits-large}
+use Rattle.text.proofs.Pieces.{digits_more, digits-end}
+use mathlib.Core.Path.{◌≡◌, sym, ◌∙◌}
+use Prim.Native.Nat.{◌≤◌, ◌-◌}
+use native.Mathlib.Omega.{arith}
+use Rattle.text.proofs.number.Given as goal
+
+abbrev pub invariant-loop-i : goal.invariant-loop-i
+invariant-loop-i l = (l.i ≤ length l.s) × (l.v ≤ 4294967295) × (number_of l.s ≡ digits_from l.v (drop l.i l.s))
+
+abbrev pub decreases-loop-i : goal.decreases-loop-i
+decreases-loop-i l = length l.s - l.i

@@ -1,0 +1,61 @@
+use mathlib.Core.Path.{◌≡◌, refl, sym, ap, ◌∙◌}
+use mathlib.Core.List.{List}
+use Prim.Native.Nat.{ℕ, ◌≤◌, ◌+◌, ◌-◌}
+use native.Mathlib.Omega.{arith}
+use lib.ListN.{length, length-set}
+use Rattle.lists.specs.Bytes.{written}
+use Rattle.lists.proofs.Chain.{written_none}
+use Rattle.text.specs.Write.{decimal}
+use Rattle.text.proofs.Decimal.{lowest, digits-lowest, digit-back}
+use Rattle.text.proofs.put_digits.Goals as goal
+
+pub overflow_add-i : goal.overflow_add-i
+overflow_add-i c = omega arith
+
+pub loop-i-init : goal.loop-i-init
+loop-i-init c =
+    let a = c.args in
+    let z : a.at + a.n - a.at ≡ length (decimal a.x) = omega (arith, c.requires.0) in (
+      omega arith,
+      c.requires.1,
+      refl,
+      ap (λ (l : List ℕ). written a.out.now a.at l)
+          (ap (λ (m : ℕ). lowest m a.x) z ∙ sym (digits-lowest 10 a.x)),
+    )
+
+pub overflow_sub-i : goal.overflow_sub-i
+overflow_sub-i c = omega arith
+
+pub overflow_cast-out : goal.overflow_cast-out
+overflow_cast-out c = omega arith
+
+pub overflow_add-out : goal.overflow_add-out
+overflow_add-out c = omega arith
+
+pub bounds-out-i : goal.bounds-out-i
+bounds-out-i c = let l = c.loop-i in omega (arith, l.invariant.2)
+
+pub loop-i-smaller : goal.loop-i-smaller
+loop-i-smaller c = omega arith
+
+pub loop-i-preserved : goal.loop-i-preserved
+loop-i-preserved c =
+    let l = c.loop-i in
+    let h = c.loop-i-test.true in (
+      omega arith,
+      omega arith,
+      length-set l.out _ _ ∙ l.invariant.2,
+      digit-back l.out c.args.at l.i l.v h
+          (omega (arith, l.invariant.1, l.invariant.2)) ∙ l.invariant.3,
+    )
+
+pub shape_of-out : goal.shape_of-out
+shape_of-out c = c.loop-i.invariant.2
+
+pub returns : goal.returns
+unfolding lowest
+returns c =
+    let l = c.loop-i in
+    let at = c.args.at in
+    let z : 0 ≡ l.i - at = omega arith in
+    sym (written_none l.out at) ∙ ap (λ (m : ℕ). written l.out at (lowest m l.v)) z ∙ l.invariant.3

@@ -1,0 +1,18 @@
+use mathlib.Core.Path.{◌≡◌, refl, sym, ap, ◌∙◌}
+use mathlib.Core.List.{List}
+use Prim.Native.Nat.{ℕ, ◌≤◌, ◌+◌, ◌-◌}
+use native.Mathlib.Omega.{arith}
+use lib.ListN.{length, length-set}
+use Rattle.lists.specs.Bytes.{written}
+use Rattle.lists.proofs.Chain.{written_none}
+use Rattle.text.specs.Write.{decimal}
+use Rattle.text.proofs.Decimal.{lowest, digits-lowest, digit-back}
+use Rattle.text.proofs.put_digits.Given as goal
+
+-- What is left to be written are the lowest digits of what is left of the number.
+abbrev pub invariant-loop-i : goal.invariant-loop-i
+invariant-loop-i l = (l.at ≤ l.i) × (l.i ≤ length l.initial.out) × (length l.out ≡ length l.initial.out)
+    × (written l.out l.at (lowest (l.i - l.at) l.v) ≡ written l.initial.out l.at (decimal l.x))
+
+abbrev pub decreases-loop-i : goal.decreases-loop-i
+decreases-loop-i l = l.i
