@@ -13,5 +13,5 @@ use Rattle.allotment.proofs.deal_round.Given as goal
 
 abbrev pub invariant-loop-i : goal.invariant-loop-i
 invariant-loop-i l =
-    (l.i ≤ l.n) × (l.n ≤ 32) × (◌≡◌ {A = Deal} (record { l.targets = l.targets; l.left = l.left })
-    (iter l.i (deal_one l.wanted) (record { l.targets = l.initial.targets; l.left = l.initial.left })))
+    (l.i ≤ l.n) × (l.n ≤ 32) × (◌≡◌ {A = Deal} (record { targets = l.targets; left = l.left })
+    (iter l.i (deal_one l.wanted) (record { targets = l.initial.targets; left = l.initial.left })))

@@ -9,8 +9,9 @@ use mir.Syntax.{w8}
 use Rattle.allotment.specs.Allotment.{total}
 use Rattle.allotment.proofs.Laws.{total-more, total-end}
 use Rattle.allotment.proofs.total.Goals as goal
+use Rattle.allotment.proofs.total.Goals.{In-loop-i, Start}
 
-long : (c : goal.Start) → length c.args.wanted ≡ 32
+long : (c : Start) → length c.args.wanted ≡ 32
 long c = search rules
 
 pub loop-i-init : goal.loop-i-init
@@ -20,7 +21,7 @@ pub bounds-wanted-i : goal.bounds-wanted-i
 bounds-wanted-i c = omega arith
 
 -- what a node asks for is a byte
-byte : (c : goal.In-loop-i) → get_or c.args.wanted c.loop-i.i 0 < 256
+byte : (c : In-loop-i) → get_or c.args.wanted c.loop-i.i 0 < 256
 byte c = let f : Fits w8 (get_or c.args.wanted c.loop-i.i 0) = search rules in f.fits
 
 pub overflow_add-sum : goal.overflow_add-sum
@@ -35,7 +36,7 @@ loop-i-smaller c = omega arith
 pub loop-i-preserved : goal.loop-i-preserved
 loop-i-preserved c =
     let l = c.loop-i in
-    (omega arith, l.invariant.1, omega (arith, byte c), omega (arith, l.invariant.3, total-more c.args.wanted l.i (omega (arith, long c))))
+    (omega arith, l.invariant.1, omega (arith, byte c), omega (arith, l.invariant.3, total-more c.args.wanted l.i (omega (arith, long c.before.before))))
 
 pub returns : goal.returns
 returns c =

@@ -9,6 +9,7 @@ use lib.Count.{count_trailing_zeros}
 use lib.Pow.{shr_le}
 use Rattle.masks.proofs.Turns.{Next, next_bit, so_far, give-none, give-turn, give-end}
 use Rattle.masks.proofs.give.Goals as goal
+use Rattle.masks.proofs.give.Goals.{In-loop-rest}
 
 pub loop-rest-init : goal.loop-rest-init
 loop-rest-init c =
@@ -24,7 +25,7 @@ loop-rest-init c =
     )
 
 -- the next bit, and that its slot is one of the owners
-next : (c : goal.In-loop-rest) →
+next : (c : In-loop-rest) →
     Next c.args.w (c.loop-rest.at - c.args.from)
     (length c.args.owners.now - c.args.from)
     c.loop-rest.rest (count_trailing_zeros 64 c.loop-rest.rest)
@@ -35,7 +36,7 @@ next c =
     (arith, l.invariant.3, shr_le c.args.w (l.at - c.args.from)) in
     next_bit c.args.w (l.at - c.args.from) _ l.rest l.invariant.3 l.invariant.2 f p
 
-within : (c : goal.In-loop-rest) → c.loop-rest.at + count_trailing_zeros 64 c.loop-rest.rest < length
+within : (c : In-loop-rest) → c.loop-rest.at + count_trailing_zeros 64 c.loop-rest.rest < length
     c.args.owners.now
 within c = omega (arith, (next c).within, c.loop-rest.invariant.0)
 
@@ -46,22 +47,22 @@ pub overflow_add-at : goal.overflow_add-at
 overflow_add-at c = omega (arith, within c)
 
 pub bounds-owners-at : goal.bounds-owners-at
-bounds-owners-at c = omega (arith, within c)
+bounds-owners-at c = omega (arith, within c.before.before)
 
 pub bounds-owners-at-in-loop-rest : goal.bounds-owners-at-in-loop-rest
-bounds-owners-at-in-loop-rest c = omega (arith, within c)
+bounds-owners-at-in-loop-rest c = omega (arith, within c.before.before)
 
 pub overflow_cast-rest : goal.overflow_cast-rest
-overflow_cast-rest c = omega (arith, (next c).short)
+overflow_cast-rest c = omega (arith, (next c.before.before).short)
 
 pub overflow_shr-rest : goal.overflow_shr-rest
-overflow_shr-rest c = (next c).short
+overflow_shr-rest c = (next c.before.before).short
 
 pub overflow_add-at-in-loop-rest : goal.overflow_add-at-in-loop-rest
-overflow_add-at-in-loop-rest c = omega (arith, within c)
+overflow_add-at-in-loop-rest c = omega (arith, within c.before.before)
 
 pub loop-rest-smaller : goal.loop-rest-smaller
-loop-rest-smaller c = omega (arith, within c)
+loop-rest-smaller c = omega (arith, within c.before.before)
 
 pub loop-rest-preserved : goal.loop-rest-preserved
 loop-rest-preserved c =
@@ -70,12 +71,12 @@ loop-rest-preserved c =
     let t = count_trailing_zeros 64 l.rest in
     let f : l.at - a.from + t + 1 ≡ l.at + t + 1 - a.from = omega (arith, l.invariant.0) in (
       omega (arith, l.invariant.0),
-      omega (arith, within c),
+      omega (arith, within c.before.before),
       l.invariant.2,
-      (next c).left ∙ ap (λ (x : ℕ). a.w / 2 ^ x) f,
+      (next c.before.before).left ∙ ap (λ (x : ℕ). a.w / 2 ^ x) f,
       length-set l.owners (l.at + t) _ ∙ l.invariant.4,
-      give-turn a.owners.now a.from a.w a.j l.at t _ _ l.owners l.invariant.5 l.invariant.0 (next c)
-          (omega (arith, within c, l.invariant.4)) _ c.pick.ensures,
+      give-turn a.owners.now a.from a.w a.j l.at t _ _ l.owners l.invariant.5 l.invariant.0 (next c.before.before)
+          (omega (arith, within c.before.before, l.invariant.4)) _ c.pick.ensures,
     )
 
 pub shape_of-owners : goal.shape_of-owners

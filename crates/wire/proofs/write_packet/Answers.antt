@@ -8,14 +8,15 @@ use mathlib.Core.Path.{◌≡◌, refl, sym, ◌∙◌}
 use native.Mathlib.Omega.{arith}
 use borrow.Author.Rules.{rules}
 use Rattle.wire.proofs.write_packet.Goals as goal
+use Rattle.wire.proofs.write_packet.Goals.{After-slice_known-5-1, Start}
 
-long : (c : goal.Start) → length c.args.p.requests ≡ 32
+long : (c : Start) → length c.args.p.requests ≡ 32
 long c = search rules
 
-parts : (c : goal.After-slice_known-5-1) → So c.args.part.now
+parts : (c : After-slice_known-5-1) → So c.args.part.now
     (packet_bytes c.args.p) c.put_bytes.new.out packet_size
 parts c =
-    packet-so c.args.p (omega arith) (long c)
+    packet-so c.args.p (omega arith) (long c.before.before.before.before.before.before.before.before.before.before.before.before.before.before.before.before.before.before.before.before.before.before)
     c.put_word.ensures
     c.put_word-2.ensures
     c.put_word-3.ensures

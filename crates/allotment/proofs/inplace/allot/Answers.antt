@@ -34,19 +34,12 @@ use Rattle.allotment.proofs.GivenSlots.{frees}
 use Rattle.allotment.proofs.DraftRows.{So, so-kept, so-on, so-turn, so-done}
 use Rattle.allotment.proofs.inplace.allot.Goals as goal
 
-long-target : (c : goal.Start) → length c.args.target ≡ 32
-long-target c = search rules
-
 -- a slot is left, and a node is chosen
 left : (slot j : ℕ) → (ltb slot 80 && not (eqb j 0)) ≡ true → slot < 80
 left slot j t = ltb-true slot 80 (and_left (ltb slot 80) (not (eqb j 0)) t)
 
 some : (slot j : ℕ) → (ltb slot 80 && not (eqb j 0)) ≡ true → j ≢ 0
 some slot j t = eqb-false j 0 (not-true (eqb j 0) (and_right (ltb slot 80) (not (eqb j 0)) t))
-
--- the function's start, from the second loop
-abbrev begin : goal.At-loop-slot → goal.Start
-begin c = c
 
 -- a node below its target is one of the first n
 below : (target : List ℕ) (n : ℕ) → ((i : ℕ) → n ≤ i → get_or target i 0 ≡ 0) → (held : List ℕ) (i : ℕ)
@@ -125,7 +118,7 @@ loop-slot-init c =
     let a = c.args in
     let m = masks_in a.s.now a.at in
     let t = a.target in
-    let w : length t ≡ 32 = long-target c in
+    let w : length t ≡ 32 = search rules in
     let g = rest a.s.now a.at a.n u.result u.ensures in
     let n : l.i ≡ u.result = omega (arith, l.invariant.0) in
     let o : l.i ≤ 32 = omega (arith, n, g.most) in
@@ -185,9 +178,9 @@ bounds-high-i-in-loop-slot-2 c = omega arith
 pub one_more-requires : goal.one_more-requires
 one_more-requires c =
     let l = c.loop-slot in
-    let a = (begin c).args in
+    let a = c.args in
     let t = c.loop-slot-test.true in
-    fill-may a.t4 (owners_in (masks_in a.s.now a.at)) a.k (holding l.held) _ (l.invariant.1 (left l.slot l.j t)) _
+    fill-may a.target (owners_in (masks_in a.s.now a.at)) a.k (holding l.held) _ (l.invariant.1 (left l.slot l.j t)) _
     c.node_index-i.ensures.1 (some l.slot l.j t)
 
 pub bounds-held-i-in-loop-slot-2 : goal.bounds-held-i-in-loop-slot-2
@@ -209,14 +202,14 @@ overflow_add-i c = omega arith
 pub turn-j-requires-in-loop-slot : goal.turn-j-requires-in-loop-slot
 turn-j-requires-in-loop-slot c =
     let l = c.loop-slot in
-    let b = begin c in
-    let a = b.args in
-    let p = b.pre in
+    let a = c.args in
+    let p = c.requires in
+    let w : length a.target ≡ 32 = search rules in
     let t = c.loop-slot-test.true in (
       p.2,
       p.3,
-      fill-at a.t4 (owners_in (masks_in a.s.now a.at)) a.k (holding l.held) _ (l.invariant.1 (left l.slot l.j t)) _
-          c.node_index-i.ensures.1 (some l.slot l.j t) _ (long-target b)
+      fill-at a.target (owners_in (masks_in a.s.now a.at)) a.k (holding l.held) _ (l.invariant.1 (left l.slot l.j t)) _
+          c.node_index-i.ensures.1 (some l.slot l.j t) _ w
           l.invariant.0 c.one_more.ensures,
     )
 
@@ -229,19 +222,18 @@ pub loop-slot-preserved : goal.loop-slot-preserved
 loop-slot-preserved c =
     let l = c.loop-slot in
     let t = c.loop-slot-test.true in
-    let b = begin c in
-    let a = b.args in
+    let a = c.args in
     let m = masks_in a.s.now a.at in
     let x = c.node_index-i in
     let u = c.rows_used-rows in
-    let i<n : x.result < a.n = below a.t4 a.n b.pre.3 l.held x.result
-    (fill-may a.t4 (owners_in m) a.k (holding l.held) _ (l.invariant.1 (left l.slot l.j t)) _ x.ensures.1
+    let i<n : x.result < a.n = below a.target a.n c.requires.3 l.held x.result
+    (fill-may a.target (owners_in m) a.k (holding l.held) _ (l.invariant.1 (left l.slot l.j t)) _ x.ensures.1
     (some l.slot l.j t)) in
-    let g : x.result < u.result = omega (arith, i<n, (rest a.s.now a.at a.n u.result u.ensures).least b.pre.2) in (
+    let g : x.result < u.result = omega (arith, i<n, (rest a.s.now a.at a.n u.result u.ensures).least c.requires.2) in (
       length-set l.held _ _ ∙ l.invariant.0,
       λ h. c.turn-j-in-loop-slot.ensures ∙ hit _ _ _ (lt-ltb _ _ h),
       l.invariant.2,
-      so-turn a.t4 (owners_in m) a.k _ _ l.invariant.2 l.slot l.low l.high l.held l.invariant.3 l.j l.invariant.1 _
+      so-turn a.target (owners_in m) a.k _ _ l.invariant.2 l.slot l.low l.high l.held l.invariant.3 l.j l.invariant.1 _
           c.node_index-i.ensures.1
           (some l.slot l.j t) (left l.slot l.j t) (l.invariant.4 (left l.slot l.j t))
           c.node_index-i.ensures.0 _ c.one_more.ensures _ _ _
@@ -254,8 +246,7 @@ loop-slot-preserved c =
 pub returns : goal.returns
 returns c =
     let l = c.loop-slot in
-    let b = begin c in
-    let a = b.args in
+    let a = c.args in
     let s = a.s.now in
     let old = owners_in (masks_in s a.at) in
     let u = c.rows_used-rows in
@@ -263,8 +254,8 @@ returns c =
     let x = first-all u.result l.low (ap length l.invariant.3.lows ∙ length-tab 32 _) l.invariant.5 in
     let y = first-all u.result l.high (ap length l.invariant.3.highs ∙ length-tab 32 _) l.invariant.6 in
     let e : m ≡ from_words l.low l.high l.held = λ i. from_words (x i) (y i) l.held in
-    let r : a.to + length (masks_bytes m) ≤ length s = omega (arith, length-masks m, b.pre.1) in
+    let r : a.to + length (masks_bytes m) ≤ length s = omega (arith, length-masks m, c.requires.1) in
     (put r c.put_words.ensures).is
     ∙ ap (λ (x : Masks). written s a.to (masks_bytes x))
-    (e ∙ so-done a.t4 old a.k _ _ l.invariant.2 l.slot l.low l.high l.held l.invariant.3 l.j l.invariant.1
+    (e ∙ so-done a.target old a.k _ _ l.invariant.2 l.slot l.low l.high l.held l.invariant.3 l.j l.invariant.1
     c.loop-slot-test.false)

@@ -11,6 +11,7 @@ use lib.Pow.{shr_le, shl_exact}
 use Rattle.masks.proofs.Turns.{Next, next_bit}
 use Rattle.allotment.proofs.LowestOnes.{Far, far-start, far-turn, far-end}
 use Rattle.allotment.proofs.inplace.lowest.Goals as goal
+use Rattle.allotment.proofs.inplace.lowest.Goals.{Else-left-eq0}
 
 pub loop-rest-init : goal.loop-rest-init
 loop-rest-init c = (omega arith, sym (div-one c.args.w), far-start c.args.w c.args.most)
@@ -19,11 +20,11 @@ pub returns-then-left-eq0 : goal.returns-then-left-eq0
 returns-then-left-eq0 c =
     let a = c.args in
     let l = c.loop-rest in
-    let e = far-end a.w a.most l.at l.auto l.left l.invariant.0 l.invariant.2 (inr c.if-left-eq0.true) in
+    let e = far-end a.w a.most l.at l.kept l.left l.invariant.0 l.invariant.2 (inr c.if-left-eq0.true) in
     λ i. record { kept = e.0 i; left = e.1 i }
 
 -- the next bit
-next : (c : goal.Else-left-eq0) → Next c.args.w c.loop-rest.at 64
+next : (c : Else-left-eq0) → Next c.args.w c.loop-rest.at 64
     c.loop-rest.rest (count_trailing_zeros 64 c.loop-rest.rest)
 next c =
     let w = c.args.w in
@@ -64,15 +65,15 @@ loop-rest-preserved c =
     let t = count_trailing_zeros 64 l.rest in
     let s : (1 * 2 ^ (l.at + t)) % 2 ^ 64 ≡ 2 ^ (l.at + t) = shl_exact {a = 1} 1 (l.at + t) 64 (lit< tt)
     (omega (arith, (next c).within)) ∙ one-mul _ in
-    let f = far-turn a.w a.most l.at l.auto l.left l.rest t l.invariant.2 (omega (arith, c.if-left-eq0.false)) (next c) in (
+    let f = far-turn a.w a.most l.at l.kept l.left l.rest t l.invariant.2 (omega (arith, c.if-left-eq0.false)) (next c) in (
       omega (arith, (next c).within),
       (next c).left,
-      subst (λ (x : ℕ). Far a.w a.most (l.at + t + 1) (Bits.bit_or l.auto x) (l.left - 1)) (sym s) f,
+      subst (λ (x : ℕ). Far a.w a.most (l.at + t + 1) (Bits.bit_or l.kept x) (l.left - 1)) (sym s) f,
     )
 
 pub returns : goal.returns
 returns c =
     let a = c.args in
     let l = c.loop-rest in
-    let e = far-end a.w a.most l.at l.auto l.left l.invariant.0 l.invariant.2 (inl (sym l.invariant.1 ∙ c.loop-rest-test.false)) in
+    let e = far-end a.w a.most l.at l.kept l.left l.invariant.0 l.invariant.2 (inl (sym l.invariant.1 ∙ c.loop-rest-test.false)) in
     λ i. record { kept = e.0 i; left = e.1 i }

@@ -34,22 +34,12 @@ returns-then-not-has_room-2 c =
     let e : leb (a.to + masks_size) (length s) ≡ false = sym c.has_room-2.ensures ∙ c.if-not-has_room-2.true in
     sym (skip (x && leb (a.to + masks_size) (length s)) _ s s (ap (λ (t : Bool). x && t) e ∙ and-false x) refl)
 
--- both places have room
-abbrev begin : goal.Else-not-has_room-2 → goal.Start
-begin c = c
-
-room_at : (c : goal.Else-not-has_room-2) → leb ((begin c).args.at + masks_size) (length (begin c).args.s.now) ≡ true
-room_at c = sym c.has_room.ensures ∙ c.if-not-has_room.false
-
-room-to : (c : goal.Else-not-has_room-2) → leb ((begin c).args.to + masks_size) (length (begin c).args.s.now) ≡ true
-room-to c = sym c.has_room-2.ensures ∙ c.if-not-has_room-2.false
-
 pub allot-requires : goal.allot-requires
 allot-requires c =
-    let a = (begin c).args in
+    let a = c.args in
     let m : c.nodes.result ≡ min a.n 32 = c.nodes.ensures in (
-      leb-true _ _ (room_at c),
-      leb-true _ _ (room-to c),
+      leb-true _ _ (sym c.has_room.ensures ∙ c.if-not-has_room.false),
+      leb-true _ _ (sym c.has_room-2.ensures ∙ c.if-not-has_room-2.false),
       omega arith,
       λ i l. ap (λ (t : List ℕ). get_or t i 0) c.targets.ensures
           ∙ target_past a.n a.k a.members a.requests i (omega arith),
@@ -58,9 +48,9 @@ allot-requires c =
 pub returns : goal.returns
 unfolding next_in held_bytes held_in owners_of schedule_of next
 returns c =
-    let a = (begin c).args in
+    let a = c.args in
     let s = a.s.now in
     c.allot.ensures
     ∙ ap (λ (t : List ℕ). written s a.to (masks_bytes (masks_of (allotted t (owners_in (masks_in s a.at)) a.k))))
     c.targets.ensures
-    ∙ sym (hit (leb (a.at + masks_size) (length s) && leb (a.to + masks_size) (length s)) _ s (both (room_at c) (room-to c)))
+    ∙ sym (hit (leb (a.at + masks_size) (length s) && leb (a.to + masks_size) (length s)) _ s (both (sym c.has_room.ensures ∙ c.if-not-has_room.false) (sym c.has_room-2.ensures ∙ c.if-not-has_room-2.false)))

@@ -7,6 +7,7 @@ use lib.Pow.{shr_le}
 use Rattle.masks.proofs.Turns.{Next, next_bit}
 use Rattle.allotment.proofs.LowestOnes.{out}
 use Rattle.allotment.proofs.inplace.next_bit.Goals as goal
+use Rattle.allotment.proofs.inplace.next_bit.Goals.{Else-rest-eq0}
 
 pub returns-then-rest-eq0 : goal.returns-then-rest-eq0
 returns-then-rest-eq0 c =
@@ -20,7 +21,7 @@ returns-then-rest-eq0 c =
     )
 
 -- the next bit
-next : (c : goal.Else-rest-eq0) → Next c.args.w c.args.from 64 (c.args.w / 2 ^ c.args.from)
+next : (c : Else-rest-eq0) → Next c.args.w c.args.from 64 (c.args.w / 2 ^ c.args.from)
     (count_trailing_zeros 64 (c.args.w / 2 ^ c.args.from))
 next c =
     let a = c.args in

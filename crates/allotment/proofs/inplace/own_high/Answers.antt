@@ -13,6 +13,7 @@ use Rattle.words.proofs.Laws.{word_of-none}
 use Rattle.allotment.specs.Inner.{own_high}
 use Rattle.allotment.proofs.OwnSlots.{own-bit, own-lt, cut_word, whole_word}
 use Rattle.allotment.proofs.inplace.own_high.Goals as goal
+use Rattle.allotment.proofs.inplace.own_high.Goals.{Then-k-lt80}
 
 pub returns-then-k-lt64 : goal.returns-then-k-lt64
 unfolding own_high
@@ -22,7 +23,7 @@ returns-then-k-lt64 c =
     (λ b g. ap (λ (t : Bool). t && (has_bit a.w b && not (has_bit a.taken b)))
     (le-ltb (64 + b) a.k (omega (arith, c.if-k-lt64.true)))))
 
-power : (c : goal.Then-k-lt80) → (1 * 2 ^ (c.args.k - 64)) % 2 ^ 16 ≡ 2 ^ (c.args.k - 64)
+power : (c : Then-k-lt80) → (1 * 2 ^ (c.args.k - 64)) % 2 ^ 16 ≡ 2 ^ (c.args.k - 64)
 power c = shl_exact {a = 1} 1 (c.args.k - 64) 16 (lit< tt) (omega (arith, c.if-k-lt80.true)) ∙ one-mul _
 
 pub overflow_sub-result-then-k-lt80 : goal.overflow_sub-result-then-k-lt80

@@ -12,8 +12,9 @@ use Rattle.words.specs.Bits.{has_bit}
 use Rattle.allotment.specs.Inner.{own_low}
 use Rattle.allotment.proofs.OwnSlots.{own-bit, own-lt, cut_word, whole_word}
 use Rattle.allotment.proofs.inplace.own_low.Goals as goal
+use Rattle.allotment.proofs.inplace.own_low.Goals.{Then-k-lt64}
 
-power : (c : goal.Then-k-lt64) → (1 * 2 ^ c.args.k) % 2 ^ 64 ≡ 2 ^ c.args.k
+power : (c : Then-k-lt64) → (1 * 2 ^ c.args.k) % 2 ^ 64 ≡ 2 ^ c.args.k
 power c = shl_exact {a = 1} 1 c.args.k 64 (lit< tt) (omega (arith, c.if-k-lt64.true)) ∙ one-mul _
 
 pub overflow_sub-result : goal.overflow_sub-result

@@ -17,41 +17,28 @@ use Rattle.node.proofs.Bare.{ends-phase}
 use Rattle.node.specs.declared.Core.{Core}
 use Rattle.site.specs.Model.{Member}
 use Rattle.site.specs.Steps.{end_member}
-use Rattle.machine.specs.Layout.{
-use Rattle.machine.proofs.phases.end_one.Goals as goal
-
-  Store,
-  store,
-  node_words_at,
-  node_bytes_at,
-  schedules_at,
-  up_in,
-  node_in,
-  stored_in,
-  node_words,
-  stored_front,
-}
+use Rattle.machine.specs.Layout.{Store, store, node_words_at, node_bytes_at, schedules_at, up_in, node_in, stored_in, node_words, stored_front}
 use Rattle.machine.specs.Written.{each, ends, end_change}
 use Rattle.machine.specs.Inner.{core_in, member_of}
 use Rattle.machine.proofs.Moves.{stepped, end-done, ended-core, ended-moved, ended-known}
 use Rattle.machine.proofs.Seats.{each_none, each-one}
-use Rattle.machine.proofs.phases.end_one.Statement.{statement}
-use Rattle.machine.proofs.phases.end_one.Tie as tie
+use Rattle.machine.proofs.phases.end_one.Goals as goal
+use Rattle.machine.proofs.phases.end_one.Goals.{After-is_waiting}
 
 -- the storage and the index, and the core and the move that the end makes
-abbrev stored : goal.After-is_waiting → Store
+abbrev stored : After-is_waiting → Store
 stored c = store c.args.words.now c.args.bytes.now
 
-abbrev index : goal.After-is_waiting → ℕ
+abbrev index : After-is_waiting → ℕ
 index c = c.args.i
 
-abbrev next : goal.After-is_waiting → Core
+abbrev next : After-is_waiting → Core
 next c = c.end-o.result.core
 
-abbrev change : goal.After-is_waiting → Move
+abbrev change : After-is_waiting → Move
 change c = c.end-o.result.change
 
-module _ (c : goal.After-is_waiting) where
+module _ (c : After-is_waiting) where
   live : up_in (stored c).bytes (index c) ≡ true
   live = sym c.is_up.ensures ∙ c.if-not-is_up.false
 
@@ -139,7 +126,7 @@ returns-then-is_waiting c =
 pub put_opened-requires : goal.put_opened-requires
 put_opened-requires c =
     let p = c.requires in
-    (p.0, p.1, p.2, ended-known (stored c) (index c) (made c).0 (sym c.is_waiting.ensures ∙ c.if-is_waiting.false))
+    (p.0, p.1, p.2, ended-known (stored c.before.before.before) (index c.before.before.before) (made c).0 (sym c.is_waiting.ensures ∙ c.if-is_waiting.false))
 
 pub overflow_mul-i-2 : goal.overflow_mul-i-2
 overflow_mul-i-2 c = omega (

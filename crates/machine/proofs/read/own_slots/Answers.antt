@@ -18,9 +18,10 @@ use Rattle.masks.proofs.Taken.{taken_none, taken-turn}
 use Rattle.masks.proofs.Turns.{how_many-le}
 use Rattle.machine.proofs.Owned.{own-count}
 use Rattle.machine.proofs.read.own_slots.Goals as goal
+use Rattle.machine.proofs.read.own_slots.Goals.{After-loop-j}
 
 -- the ones that are left of its two words are the slots that it owns
-abbrev slots : goal.After-loop-j → ℕ
+abbrev slots : After-loop-j → ℕ
 slots c =
     let a = c.args in
     how_many 80 (owns (owners_in (masks_in a.bytes.now a.at)) a.i)
@@ -28,11 +29,11 @@ slots c =
 abbrev left : ℕ → ℕ → ℕ
 left w t = ones (Bits.bit_xor w (Bits.bit_and w t))
 
-abbrev Owned : goal.After-loop-j → Type 0
+abbrev Owned : After-loop-j → Type 0
 Owned c = left c.low_at-low.result c.loop-j.taken-low + left c.high_at-high.result
     c.loop-j.taken-high ≡ slots c
 
-few : (c : goal.After-loop-j) → slots c ≤ 80
+few : (c : After-loop-j) → slots c ≤ 80
 few c = how_many-le 80 _
 
 pub loop-j-init : goal.loop-j-init
@@ -57,7 +58,7 @@ loop-j-preserved c =
     )
 
 -- what the node owns, counted
-owned : (c : goal.After-loop-j) → Owned c
+owned : (c : After-loop-j) → Owned c
 owned c =
     let l = c.loop-j in
     let a = c.args in

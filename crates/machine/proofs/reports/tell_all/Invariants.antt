@@ -16,5 +16,8 @@ use Rattle.machine.specs.declared.Report.{Report}
 use Rattle.machine.specs.declared.NodeReport.{NodeReport}
 use Rattle.machine.proofs.reports.tell_all.Given as goal
 
+abbrev each : Store → ℕ → NodeReport
+each s i = member_report true (get_or (site_in s).members i nobody)
+
 abbrev pub invariant-loop-i : goal.invariant-loop-i
 invariant-loop-i l = (l.i ≤ 32) × (length l.initial.nodes ≡ 32) × (l.nodes ≡ tab l.i (each (store l.words l.bytes)) ++ drop l.i l.initial.nodes)

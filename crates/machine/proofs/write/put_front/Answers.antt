@@ -9,15 +9,16 @@ use Prim.Native.Nat.{ℕ, ◌-◌, ◌+◌}
 use native.Mathlib.Omega.{arith}
 use borrow.Author.Rules.{rules}
 use Rattle.machine.proofs.write.put_front.Goals as goal
+use Rattle.machine.proofs.write.put_front.Goals.{Start}
 
-long-known : (c : goal.Start) → length c.args.c.round.known ≡ 32
+long-known : (c : Start) → length c.args.c.round.known ≡ 32
 long-known c = search rules
 
 pub returns : goal.returns
 unfolding stored_front
 returns c =
     let a = c.args in
-    let k = long-known c in
+    let k = long-known c.before.before.before.before.before.before.before.before.before.before.before.before.before.before.before.before.before.before.before in
     three a.bytes.now _ _ _ (node_bytes_at a.i) (node_bytes_at a.i + 5) (node_bytes_at a.i + 37)
     (c.put_small.ensures
     ∙ ap (λ (x : ℕ). written a.bytes.now (node_bytes_at a.i)

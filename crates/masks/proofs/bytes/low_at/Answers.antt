@@ -1,5 +1,7 @@
-use mathlib.Core.Path.{sym, ◌∙◌}
-use Prim.Native.Nat.{◌≤◌, ◌+◌}
+use mathlib.Core.Bool.{Bool, true}
+use mathlib.Core.List.{List}
+use mathlib.Core.Path.{◌≡◌, sym, ◌∙◌}
+use Prim.Native.Nat.{ℕ, ◌≤◌, ◌+◌}
 use native.Mathlib.Omega.{arith}
 use borrow.Author.Rules.{rules}
 use borrow.Author.Tests.{not-true, not-false, leb-true, le-leb}
@@ -16,23 +18,24 @@ returns-then-not-has_room c =
     sym (skip (leb (a.at + masks_size) (length a.s.now)) _ _ _ (sym c.has_room.ensures ∙ c.if-not-has_room.true)
     (λ _. 0))
 
-room : (c : goal.Else-not-has_room) → c.args.at + masks_size ≤ length c.args.s.now
-room c = leb-true _ _ (sym c.has_room.ensures ∙ c.if-not-has_room.false)
+-- what the test of the room says
+room : (a : ℕ) (s : List ℕ) (r : Bool) → r ≡ leb (a + masks_size) (length s) → r ≡ true → a + masks_size ≤ length s
+room a s r e f = leb-true _ _ (sym e ∙ f)
 
 pub overflow_add-at : goal.overflow_add-at
-overflow_add-at c = omega (arith, room c)
+overflow_add-at c = omega (arith, room c.args.at c.args.s.now c.has_room.result c.has_room.ensures c.if-not-has_room.false)
 
 pub long_word-requires : goal.long_word-requires
-long_word-requires c = omega (arith, room c, c.if-i-lt32.true)
+long_word-requires c = omega (arith, room c.args.at c.args.s.now c.has_room.result c.has_room.ensures c.if-not-has_room.false, c.if-i-lt32.true)
 
 pub returns-then-i-lt32 : goal.returns-then-i-lt32
 returns-then-i-lt32 c =
     let a = c.args in
     c.long_word.ensures ∙ low_read a.s.now a.at a.i (omega (arith, c.if-i-lt32.true))
-    ∙ sym (hit (leb (a.at + masks_size) (length a.s.now)) _ _ (le-leb _ _ (room c)))
+    ∙ sym (hit (leb (a.at + masks_size) (length a.s.now)) _ _ (le-leb _ _ (room c.args.at c.args.s.now c.has_room.result c.has_room.ensures c.if-not-has_room.false)))
 
 pub returns : goal.returns
 returns c =
     let a = c.args in
-    sym (hit (leb (a.at + masks_size) (length a.s.now)) _ _ (le-leb _ _ (room c))
+    sym (hit (leb (a.at + masks_size) (length a.s.now)) _ _ (le-leb _ _ (room c.args.at c.args.s.now c.has_room.result c.has_room.ensures c.if-not-has_room.false))
     ∙ low-past a.s.now a.at a.i (omega (arith, c.if-i-lt32.false)))

@@ -13,8 +13,9 @@ use Rattle.lists.specs.Bytes.{written}
 use Rattle.masks.proofs.Moves.{first-min}
 use Rattle.masks.proofs.Rows.{entries, length-masks, masks-put}
 use Rattle.masks.proofs.bytes.put_words.Goals as goal
+use Rattle.masks.proofs.bytes.put_words.Goals.{Else-not-has_room, Start}
 
-long-counts : (c : goal.Start) → length c.args.counts ≡ 32
+long-counts : (c : Start) → length c.args.counts ≡ 32
 long-counts c = search rules
 
 pub returns-then-not-has_room : goal.returns-then-not-has_room
@@ -24,24 +25,24 @@ returns-then-not-has_room c =
     let h : length a.out.now < a.at + masks_size = leb-false _ _ (sym c.has_room.ensures ∙ c.if-not-has_room.true) in
     not-tried a.out.now (masks_bytes m) a.at (omega (arith, h, length-masks m))
 
-room : (c : goal.Else-not-has_room) → c.args.at + masks_size ≤ length
+room : (c : Else-not-has_room) → c.args.at + masks_size ≤ length
     c.args.out.now
 room c = leb-true _ _ (sym c.has_room.ensures ∙ c.if-not-has_room.false)
 
 pub put_first-requires : goal.put_first-requires
-put_first-requires c = (omega (arith, c.nodes_to-top.ensures), omega (arith, room c))
+put_first-requires c = (omega (arith, c.nodes_to-top.ensures), omega (arith, room c.before.before))
 
 pub overflow_add-at : goal.overflow_add-at
-overflow_add-at c = omega (arith, room c)
+overflow_add-at c = omega (arith, room c.before.before.before.before.before.before)
 
 pub put_second-requires : goal.put_second-requires
 put_second-requires c = (
   omega (arith, c.nodes_to-top.ensures),
-  omega (arith, room c),
+  omega (arith, room c.before.before.before.before.before.before),
 )
 
 pub overflow_add-at-2 : goal.overflow_add-at-2
-overflow_add-at-2 c = omega (arith, room c)
+overflow_add-at-2 c = omega (arith, room c.before.before.before.before.before.before.before.before.before.before)
 
 pub returns : goal.returns
 returns c =
@@ -49,7 +50,7 @@ returns c =
     let t = c.nodes_to-top in
     let cut : (l : List ℕ) → first_words t.result l ≡ first_words n l = λ l. ap (λ (x : ℕ). first_words x l) t.ensures ∙ first-min n l in
     let m : Masks = from_words (first_words n c.args.low.now) (first_words n c.args.high.now) c.args.counts in
-    masks-put m c.args.out.now c.args.at (room c) (sym (entries c.args.counts (count_of m) (long-counts c) (λ i k. refl)))
+    masks-put m c.args.out.now c.args.at (room c.before.before.before.before.before.before.before.before.before.before.before.before.before.before.before) (sym (entries c.args.counts (count_of m) (long-counts c.before.before.before.before.before.before.before.before.before.before.before.before.before.before.before.before.before.before) (λ i k. refl)))
     (c.put_first.ensures ∙ ap (λ (l : List ℕ). written c.args.out.now c.args.at (rows 32 (λ i. bytes64 (get_or l i 0))))
     (cut c.args.low.now))
     (c.put_second.ensures

@@ -8,16 +8,17 @@ use Rattle.node.specs.Inner.{verdict_of}
 use Rattle.node.specs.Model.{Node}
 use Rattle.node.proofs.Cores.{verdict-first, rule-new, rule-marked, rule-first}
 use Rattle.node.proofs.Core.ground.Goals as goal
+use Rattle.node.proofs.Core.ground.Goals.{After-is_due}
 
 pub first_told-first-requires : goal.first_told-first-requires
 first_told-first-requires c = c.lowest_missing-missing.ensures
 
 -- the node with its schedules left out
-n : goal.After-is_due → Node
+n : After-is_due → Node
 n c = bare c.args.self
 
 -- whether the new schedule is due, by the first rule
-due-so : (c : goal.After-is_due) → c.is_due.result ≡ due (n c)
+due-so : (c : After-is_due) → c.is_due.result ≡ due (n c)
 unfolding due n
 due-so c =
     let v = c.verdict_of.ensures ∙ ap verdict_of c.first_told-first.ensures ∙ (verdict-first (n c)).1
@@ -29,7 +30,7 @@ pub returns-then-is_due : goal.returns-then-is_due
 unfolding n
 returns-then-is_due c =
     λ i. record {
-      rule = sym (rule-new (n c) (sym (due-so c) ∙ c.if-is_due.true)) i;
+      rule = sym (rule-new (n c.before) (sym (due-so c.before) ∙ c.if-is_due.true)) i;
       missing = c.lowest_missing-missing.ensures i;
     }
 
@@ -37,7 +38,7 @@ pub returns-then-self : goal.returns-then-self
 unfolding n
 returns-then-self c =
     λ i. record {
-      rule = sym (rule-marked (n c) (sym (due-so c) ∙ c.if-is_due.false) c.if-self.true) i;
+      rule = sym (rule-marked (n c.before.before) (sym (due-so c.before.before) ∙ c.if-is_due.false) c.if-self.true) i;
       missing = c.lowest_missing-missing.ensures i;
     }
 
@@ -46,6 +47,6 @@ unfolding n
 returns c =
     let first = c.first_told-first.ensures in
     λ i. record {
-      rule = (first ∙ sym (rule-first (n c) (sym (due-so c) ∙ c.if-is_due.false) c.if-self.false)) i;
+      rule = (first ∙ sym (rule-first (n c.before.before) (sym (due-so c.before.before) ∙ c.if-is_due.false) c.if-self.false)) i;
       missing = c.lowest_missing-missing.ensures i;
     }

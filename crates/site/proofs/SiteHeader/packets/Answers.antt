@@ -11,6 +11,7 @@ use mir.Syntax.{w8}
 use lib.ListN.{length, get_or, drop}
 use Rattle.allotment.specs.Allotment.{total}
 use Rattle.site.proofs.SiteHeader.packets.Goals as goal
+use Rattle.site.proofs.SiteHeader.packets.Goals.{In-loop-i}
 
 -- what is counted and what is left make the total
 total_left : (l : List ℕ) (i : ℕ) → i < length l → total (drop i l) ≡ get_or l i 0 + total (drop (suc i) l)
@@ -33,7 +34,7 @@ pub bounds-sent-i : goal.bounds-sent-i
 bounds-sent-i c = omega arith
 
 -- a count is a byte
-byte : (c : goal.In-loop-i) → get_or c.args.self.sent c.loop-i.i 0 < 256
+byte : (c : In-loop-i) → get_or c.args.self.sent c.loop-i.i 0 < 256
 byte c = let f : Fits w8 (get_or c.args.self.sent c.loop-i.i 0) = search rules in f.fits
 
 pub overflow_add-n : goal.overflow_add-n
