@@ -103,9 +103,9 @@ requesters-union a b =
     (has_bit-or (requesters a) (requesters b) i ∙ ap₂ ◌||◌ (requesters-has a i l) (requesters-has b i l)))
 
 -- no node with two requests
-pub agree_at : (a b : List ℕ) → agree a b ≡ true → (i : ℕ) → i < 32 → agree_at (get_or a i 0) (get_or b i 0) ≡ true
+pub agree_at_lem : (a b : List ℕ) → agree a b ≡ true → (i : ℕ) → i < 32 → agree_at (get_or a i 0) (get_or b i 0) ≡ true
 unfolding agree
-agree_at a b h i l = all-at 32 (λ i. agree_at (get_or a i 0) (get_or b i 0)) h i l
+agree_at_lem a b h i l = all-at 32 (λ i. agree_at (get_or a i 0) (get_or b i 0)) h i l
 
 -- requests of the nodes of a set
 pub within-at : (l : List ℕ) (w : ℕ) → requests_within l w ≡ true → (i : ℕ) → i < 32 → request_within (get_or l i 0) (has_bit w i) ≡ true
@@ -155,7 +155,7 @@ within-apart l w h = iff (requests_fit l && is_inside (requesters l) w) (request
 
     inside : requests_within l w ≡ true → is_inside (requesters l) w ≡ true
     inside e = eq-eqb (Bits.bit_or (requesters l) w) w
-        (same_word 32 (Bits.bit_or (requesters l) w) w (or_lt _ _ 32 (requesters-lt l) h) h
+        (same_word 32 (Bits.bit_or (requesters l) w) w (or_lt 32 _ _ (requesters-lt l) h) h
         (λ i k. has_bit-or (requesters l) w i ∙ absorbed (has_bit (requesters l) i) (has_bit w i) (within-sub l w e i k)))
 
 -- the requesters are among the first n nodes where the set is

@@ -11,6 +11,7 @@ use Rattle.words.proofs.Tests.{hit}
 use Rattle.words.proofs.Laws.{word_more, word_same}
 use Rattle.words.specs.Bits.{word_of}
 use Rattle.membership.proofs.counters.heard_often.Goals as goal
+use Rattle.membership.proofs.counters.heard_often.Goals.{then-is_often, else-is_often}
 
 pub loop-i-init : goal.loop-i-init
 unfolding word_of
@@ -31,11 +32,11 @@ loop-i-preserved c =
     let e = c.loop-i.invariant.1 in
     let o = sym c.is_often.ensures in (
       omega arith,
-      ⊎_elim
-          (λ w. w.2 ∙ w.1.ensures ∙ hit _ _ _ (lt-ltb i 32 (omega arith)) ∙ ap (λ (x : ℕ). Bits.bit_or x (2 ^ i)) e
-          ∙ word_more i _ (o ∙ w.0.taken))
-          (λ w. w.1 ∙ e ∙ word_same i _ (o ∙ w.0.left))
-          c.if-is_often.branch,
+      elim c.if-is_often.branch [
+        then-is_often w ↦ w.w-is ∙ w.with-w.ensures ∙ hit _ _ _ (lt-ltb i 32 (omega arith)) ∙ ap (λ (x : ℕ). Bits.bit_or x (2 ^ i)) e
+          ∙ word_more i _ (o ∙ w.if-is_often.true)
+      | else-is_often w ↦ w.w-is ∙ e ∙ word_same i _ (o ∙ w.if-is_often.false)
+      ],
     )
 
 pub returns : goal.returns

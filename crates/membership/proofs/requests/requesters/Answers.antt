@@ -11,6 +11,7 @@ use Rattle.words.proofs.Laws.{word_more, word_same}
 use Rattle.words.specs.Bits.{word_of}
 use Rattle.membership.specs.requests.Requests.{requesters, has_request}
 use Rattle.membership.proofs.requests.requesters.Goals as goal
+use Rattle.membership.proofs.requests.requesters.Goals.{then-l-i, else-l-i}
 
 pub loop-i-init : goal.loop-i-init
 unfolding word_of
@@ -31,11 +32,11 @@ loop-i-preserved c =
     let l = c.args.l in
     let e = c.loop-i.invariant.1 in (
       omega arith,
-      ⊎_elim
-          (λ w. w.2 ∙ w.1.ensures ∙ hit _ _ _ (lt-ltb i 32 (omega arith)) ∙ ap (λ (x : ℕ). Bits.bit_or x (2 ^ i)) e
-          ∙ word_more i (has_request l) (ap not (ne_eqb _ _ w.0.taken)))
-          (λ w. w.1 ∙ e ∙ word_same i (has_request l) (ap not (eq-eqb _ _ w.0.left)))
-          c.if-l-i.branch,
+      elim c.if-l-i.branch [
+        then-l-i w ↦ w.w-is ∙ w.with-w.ensures ∙ hit _ _ _ (lt-ltb i 32 (omega arith)) ∙ ap (λ (x : ℕ). Bits.bit_or x (2 ^ i)) e
+          ∙ word_more i (has_request l) (ap not (ne_eqb _ _ w.if-l-i.true))
+      | else-l-i w ↦ w.w-is ∙ e ∙ word_same i (has_request l) (ap not (eq-eqb _ _ w.if-l-i.false))
+      ],
     )
 
 pub returns : goal.returns
