@@ -38,5 +38,5 @@ returns c =
     let e : c.decode-core.result ≡ core_of (decoded a) = c.decode-core.ensures
     ∙ ap (λ (l : List ℕ). core_of (decoded_with l free free)) w in
     let k : Bytes a = λ i l. omega (arith, c.type_inv.s i) in
-    let v = both (is (leb (get_or a at_phase 0) 3 && leb (get_or a at_updated 0) 1)) (c.fits2.ensures ∙ ap (area_fits a) e) ∙ fits-valid a h k in
+    let v = both (is (leb (get_or a at_phase 0) 3 && leb (get_or a at_updated 0) 1)) (c.fits.ensures ∙ ap (area_fits a) e) ∙ fits-valid a h k in
     (λ i. record { ok = v i; core = e i }) ∙ sym (hit _ _ _ (eq-eqb _ _ h))

@@ -17,10 +17,10 @@ returns-then-too_few c =
     let whole = no_room (store a.words.now a.bytes.now) a.day a.area.now (windows_in a.w.now) a.t a.out.now a.e
     (sym c.too_few.ensures ∙ c.if-too_few.true) c.code.ensures in record {
       value = whole.0;
-      words_after = whole.1;
-      bytes_after = whole.2;
-      out_after = whole.3;
-      tally_after = whole.4;
+      words_after = whole.1.0;
+      bytes_after = whole.1.1.0;
+      out_after = whole.1.1.1.0;
+      tally_after = whole.1.1.1.1;
     }
 
 pub objection-o-requires : goal.objection-o-requires
@@ -43,10 +43,10 @@ returns-then-not-is_done c =
     c.answer_to-a.ensures
     (c.code-then-not-is_done.ensures ∙ ap number c.first_of.ensures) in record {
       value = whole.0;
-      words_after = whole.1;
-      bytes_after = whole.2;
-      out_after = whole.3;
-      tally_after = whole.4;
+      words_after = whole.1.0;
+      bytes_after = whole.1.1.0;
+      out_after = whole.1.1.1.0;
+      tally_after = whole.1.1.1.1;
     }
 
 pub tally_behind-tally-requires : goal.tally_behind-tally-requires
@@ -56,7 +56,7 @@ tally_behind-tally-requires c =
     (sym c.too_few.ensures
     ∙ c.if-too_few.false) in
     let k = c.step-r.auto in
-    (omega (arith, k.0, l.0), omega (arith, k.1.0, l.1))
+    (omega (arith, k.words, l.0), omega (arith, k.bytes, l.1))
 
 pub returns : goal.returns
 returns c =
@@ -70,12 +70,13 @@ returns c =
     let g : is_done (objection (kept_in s a.day a.area.now a.t) (windows_in a.w.now) a.e) ≡ true =
     ap is_done (sym o.ensures) ∙ sym d.ensures
     ∙ c.if-not-is_done.false in
+    let r = c.step-r.ensures in
     let whole = as-done s a.day a.area.now (windows_in a.w.now) a.t a.out.now a.e f g
-    c.step-r.ensures
+    (r.value, (r.words_after, (r.bytes_after, (r.bytes_after_2, r.area_after))))
     c.put.ensures c.tally_behind-tally.ensures c.code-2.ensures in record {
       value = whole.0;
-      words_after = whole.1;
-      bytes_after = whole.2;
-      out_after = whole.3;
-      tally_after = whole.4;
+      words_after = whole.1.0;
+      bytes_after = whole.1.1.0;
+      out_after = whole.1.1.1.0;
+      tally_after = whole.1.1.1.1;
     }

@@ -9,7 +9,7 @@ use Rattle.machine.specs.Layout.{store, site_in}
 use Rattle.tally.specs.Claims.{held_by}
 use Rattle.tally.specs.Ends.{schedules_of}
 use borrow.Author.Rules.{rules}
-use Rattle.machine.proofs.combined.Held.{slots_read}
+use Rattle.machine.proofs.combined.Held.{slots_read_lem}
 use Rattle.machine.proofs.epochs.slots_held.Goals as goal
 
 pub loop-i-init : goal.loop-i-init
@@ -37,7 +37,7 @@ loop-i-preserved c =
       omega arith,
       refl,
       fill_more _ (held_by (schedules_of (site_in s))) _ _ _ (omega arith) l.invariant.2
-          (c.slots_held.ensures ∙ slots_read s l.i c.requires.0 c.requires.1 (omega arith)),
+          (c.slots_held.ensures ∙ slots_read_lem s l.i c.requires.0 c.requires.1 (omega arith)),
     )
 
 pub returns : goal.returns

@@ -9,7 +9,7 @@ use Rattle.machine.specs.Layout.{store, site_in}
 use Rattle.tally.specs.Claims.{held_by}
 use Rattle.tally.specs.Ends.{schedules_of}
 use borrow.Author.Rules.{rules}
-use Rattle.machine.proofs.combined.Held.{slots_read}
+use Rattle.machine.proofs.combined.Held.{slots_read_lem}
 use Rattle.machine.proofs.epochs.slots_held.Given as goal
 
 abbrev pub invariant-loop-i : goal.invariant-loop-i

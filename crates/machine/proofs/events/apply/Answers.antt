@@ -12,6 +12,18 @@ use Rattle.site.specs.declared.Event.{Event}
 use borrow.Author.Rules.{rules}
 use Rattle.machine.proofs.events.apply.Goals as goal
 
+-- an arm knows which event it has: what is said of that event is said of the one lent
+module _ (s : Store) (area : List ℕ) {e x : Event} (q : e ≡ x) where
+  accepted : event_answer (site_in s) area e ≡ Done → event_answer (site_in s) area x ≡ Done
+  accepted h = sym (ap (event_answer (site_in s) area) q) ∙ h
+
+  done : {w b l : List ℕ} → w ≡ (next_store s area x).words → b ≡ (next_store s area x).bytes → l ≡ next_area (site_in s) area x
+      → (w ≡ (next_store s area e).words) × ((b ≡ (next_store s area e).bytes) × (l ≡ next_area (site_in s) area e))
+  done h k m = (
+    h ∙ ap (λ (y : Event). (next_store s area y).words) (sym q),
+    (k ∙ ap (λ (y : Event). (next_store s area y).bytes) (sym q), m ∙ ap (λ (y : Event). next_area (site_in s) area y) (sym q)),
+  )
+
 pub send-requires : goal.send-requires
 send-requires c =
     let s = store c.args.words.now c.args.bytes.now in
@@ -48,8 +60,8 @@ returns-in-Send c =
     let s = store c.args.words.now c.args.bytes.now in
     let whole = done s c.args.area.now c.in-Send.is refl c.send.ensures.bytes_after c.send.ensures.area_after in record {
       words_after = whole.0;
-      bytes_after = whole.1;
-      area_after = whole.2;
+      bytes_after = whole.1.0;
+      area_after = whole.1.1;
     }
 
 pub returns-in-Hear : goal.returns-in-Hear
@@ -57,8 +69,8 @@ returns-in-Hear c =
     let s = store c.args.words.now c.args.bytes.now in
     let whole = done s c.args.area.now c.in-Hear.is c.hear.ensures.words_after c.hear.ensures.bytes_after refl in record {
       words_after = whole.0;
-      bytes_after = whole.1;
-      area_after = whole.2;
+      bytes_after = whole.1.0;
+      area_after = whole.1.1;
     }
 
 pub returns-in-Close : goal.returns-in-Close
@@ -68,8 +80,8 @@ returns-in-Close c =
     let whole = done s c.args.area.now c.in-Close.is (c.close.ensures.words_after ∙ ap (λ (x : Store). x.words) h)
     (c.close.ensures.bytes_after ∙ ap (λ (x : Store). x.bytes) h) refl in record {
       words_after = whole.0;
-      bytes_after = whole.1;
-      area_after = whole.2;
+      bytes_after = whole.1.0;
+      area_after = whole.1.1;
     }
 
 pub returns-in-Take : goal.returns-in-Take
@@ -77,8 +89,8 @@ returns-in-Take c =
     let s = store c.args.words.now c.args.bytes.now in
     let whole = done s c.args.area.now c.in-Take.is c.take.ensures.words_after c.take.ensures.bytes_after refl in record {
       words_after = whole.0;
-      bytes_after = whole.1;
-      area_after = whole.2;
+      bytes_after = whole.1.0;
+      area_after = whole.1.1;
     }
 
 pub returns-in-End : goal.returns-in-End
@@ -88,8 +100,8 @@ returns-in-End c =
     let whole = done s c.args.area.now c.in-End.is (c.end.ensures.words_after ∙ ap (λ (x : Store). x.words) h)
     (c.end.ensures.bytes_after ∙ ap (λ (x : Store). x.bytes) h) refl in record {
       words_after = whole.0;
-      bytes_after = whole.1;
-      area_after = whole.2;
+      bytes_after = whole.1.0;
+      area_after = whole.1.1;
     }
 
 pub returns-in-Want : goal.returns-in-Want
@@ -98,8 +110,8 @@ returns-in-Want c =
     let s = store c.args.words.now c.args.bytes.now in
     let whole = done s c.args.area.now c.in-Want.is refl c.want.ensures refl in record {
       words_after = whole.0;
-      bytes_after = whole.1;
-      area_after = whole.2;
+      bytes_after = whole.1.0;
+      area_after = whole.1.1;
     }
 
 pub returns-in-Crash : goal.returns-in-Crash
@@ -107,8 +119,8 @@ returns-in-Crash c =
     let s = store c.args.words.now c.args.bytes.now in
     let whole = done s c.args.area.now c.in-Crash.is c.crash.ensures.words_after c.crash.ensures.bytes_after refl in record {
       words_after = whole.0;
-      bytes_after = whole.1;
-      area_after = whole.2;
+      bytes_after = whole.1.0;
+      area_after = whole.1.1;
     }
 
 pub returns-in-Restart : goal.returns-in-Restart
@@ -116,6 +128,6 @@ returns-in-Restart c =
     let s = store c.args.words.now c.args.bytes.now in
     let whole = done s c.args.area.now c.in-Restart.is c.restart.ensures.words_after c.restart.ensures.bytes_after refl in record {
       words_after = whole.0;
-      bytes_after = whole.1;
-      area_after = whole.2;
+      bytes_after = whole.1.0;
+      area_after = whole.1.1;
     }

@@ -15,9 +15,9 @@ returns-then-words-lt-WORDS c =
     let s = store a.words.now a.bytes.now in
     let whole = refused s a.f a.t (few_words s c.if-words-lt-WORDS.true) in record {
       value = whole.0;
-      words_after = whole.1;
-      bytes_after = whole.2;
-      bytes_after_2 = whole.3;
+      words_after = whole.1.0;
+      bytes_after = whole.1.1.0;
+      bytes_after_2 = whole.1.1.1;
     }
 
 pub returns-then-bytes-lt-BYTES : goal.returns-then-bytes-lt-BYTES
@@ -26,9 +26,9 @@ returns-then-bytes-lt-BYTES c =
     let s = store a.words.now a.bytes.now in
     let whole = refused s a.f a.t (few_bytes s c.if-bytes-lt-BYTES.true) in record {
       value = whole.0;
-      words_after = whole.1;
-      bytes_after = whole.2;
-      bytes_after_2 = whole.3;
+      words_after = whole.1.0;
+      bytes_after = whole.1.1.0;
+      bytes_after_2 = whole.1.1.1;
     }
 
 pub returns : goal.returns
@@ -46,7 +46,7 @@ returns c =
     (o.words_after ∙ ap (λ (u : Store). (iter (min a.f.nodes 32) (loaded_at a.f a.t) u).words) v)
     (o.bytes_after ∙ ap (λ (u : Store). (iter (min a.f.nodes 32) (loaded_at a.f a.t) u).bytes) v) in record {
       value = whole.0;
-      words_after = whole.1;
-      bytes_after = whole.2;
-      bytes_after_2 = whole.3;
+      words_after = whole.1.0;
+      bytes_after = whole.1.1.0;
+      bytes_after_2 = whole.1.1.1;
     }

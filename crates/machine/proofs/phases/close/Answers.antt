@@ -35,7 +35,7 @@ put_phase-requires c =
     let a = c.args in
     let h = long-enough (store a.words.now a.bytes.now) c.if-words-bytes.false in
     let k = c.close_each.auto in
-    omega (arith, h.1, k.1.0)
+    omega (arith, h.1, k.bytes)
 
 pub returns : goal.returns
 unfolding closed_store

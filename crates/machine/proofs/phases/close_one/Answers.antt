@@ -54,7 +54,7 @@ pub move_schedules-requires : goal.move_schedules-requires
 move_schedules-requires c =
     let p = c.requires in
     let k = c.put_core.auto in
-    (p.0, omega (arith, p.2, k.1.0))
+    (p.0, omega (arith, p.2, k.bytes))
 
 pub returns : goal.returns
 returns c =

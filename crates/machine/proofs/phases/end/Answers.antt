@@ -45,14 +45,14 @@ bounds-words-261-2 c =
     let a = c.args in
     let h = long-enough (store a.words.now a.bytes.now) c.if-words-bytes.false in
     let k = c.end_each.auto in
-    omega (arith, h.0, k.0)
+    omega (arith, h.0, k.words)
 
 pub put_phase-requires : goal.put_phase-requires
 put_phase-requires c =
     let a = c.args in
     let h = long-enough (store a.words.now a.bytes.now) c.if-words-bytes.false in
     let k = c.end_each.auto in
-    omega (arith, h.1, k.1.0)
+    omega (arith, h.1, k.bytes)
 
 pub returns : goal.returns
 unfolding ended_store site_in

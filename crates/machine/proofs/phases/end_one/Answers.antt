@@ -38,38 +38,37 @@ next c = c.end-o.result.core
 abbrev change : After-is_waiting → Move
 change c = c.end-o.result.change
 
-module _ (c : After-is_waiting) where
-  live : up_in (stored c).bytes (index c) ≡ true
-  live = sym c.is_up.ensures ∙ c.if-not-is_up.false
+live : (c : After-is_waiting) → up_in (stored c).bytes (index c) ≡ true
+live c = sym c.is_up.ensures ∙ c.if-not-is_up.false
 
-  made : (next c ≡ core_of (ended_node (node_in (stored c) (index c)))) × (change c ≡ (core_ended (core_in (stored c) (index c))).change)
-  made = ended-core (node_in (stored c) (index c)) c.core_with-c.ensures c.end-o.ensures
+made : (c : After-is_waiting) → (next c ≡ core_of (ended_node (node_in (stored c) (index c)))) × (change c ≡ (core_ended (core_in (stored c) (index c))).change)
+made c = ended-core (node_in (stored c) (index c)) c.core_with-c.ensures c.end-o.ensures
 
-  yes : is_done (end_answer (node_in (stored c) (index c))) ≡ true
-  yes =
-      let n = node_in (stored c) (index c) in
-      let answer = c.end_answer.ensures
-      ∙ ap (λ (x : Core). may_end x.phase) c.core_with-c.ensures ∙ sym (ends-phase n)
-      in
-      ap is_done (sym answer) ∙ sym c.is_done.ensures
-      ∙ c.if-not-is_done.false
+yes : (c : After-is_waiting) → is_done (end_answer (node_in (stored c) (index c))) ≡ true
+yes c =
+    let n = node_in (stored c) (index c) in
+    let answer = c.end_answer.ensures
+    ∙ ap (λ (x : Core). may_end x.phase) c.core_with-c.ensures ∙ sym (ends-phase n)
+    in
+    ap is_done (sym answer) ∙ sym c.is_done.ensures
+    ∙ c.if-not-is_done.false
 
-  -- its numbers written, and its schedules dropped
-  ended : {w b r : List ℕ} → w ≡ written (stored c).words (node_words_at (index c)) (node_words (bare (next c)))
-      → b ≡ written (stored c).bytes (node_bytes_at (index c)) (stored_front (member_of true (bare (next c))))
-      → schedules_at (index c) + both_size ≤ length b → r ≡ dropped_in (change c) b (schedules_at (index c))
-      → (w ≡ (each ends end_member end_change (index c) (stored c)).words) × (r ≡ (each ends end_member end_change (index c) (stored c)).bytes)
-  ended {w} {b} {r} f g h k =
-      let s = stored c in
-      let i = index c in
-      let m = stored_in s i in
-      let done = end-done m live yes in
-      let up = sym (ap (λ (x : Member). x.up) done ∙ live) in
-      let core = made.0 ∙ sym (ap (λ (x : Member). core_of x.node) done) in
-      let e = each-one ends end_member end_change i s (both live yes) in
-      let z = stepped s i (end_member m) up core made.1 refl f g
-      (ended-moved (node_in s i) (core_in s i) b (schedules_at i) made.1 h k) in
-      (z.0 ∙ sym (ap (λ (x : Store). x.words) e), z.1 ∙ sym (ap (λ (x : Store). x.bytes) e))
+-- its numbers written, and its schedules dropped
+ended : (c : After-is_waiting) → {w b r : List ℕ} → w ≡ written (stored c).words (node_words_at (index c)) (node_words (bare (next c)))
+    → b ≡ written (stored c).bytes (node_bytes_at (index c)) (stored_front (member_of true (bare (next c))))
+    → schedules_at (index c) + both_size ≤ length b → r ≡ dropped_in (change c) b (schedules_at (index c))
+    → (w ≡ (each ends end_member end_change (index c) (stored c)).words) × (r ≡ (each ends end_member end_change (index c) (stored c)).bytes)
+ended c {w} {b} {r} f g h k =
+    let s = stored c in
+    let i = index c in
+    let m = stored_in s i in
+    let done = end-done m (live c) (yes c) in
+    let up = sym (ap (λ (x : Member). x.up) done ∙ live c) in
+    let core = (made c).0 ∙ sym (ap (λ (x : Member). core_of x.node) done) in
+    let e = each-one ends end_member end_change i s (both (live c) (yes c)) in
+    let z = stepped s i (end_member m) up core (made c).1 refl f g
+    (ended-moved (node_in s i) (core_in s i) b (schedules_at i) (made c).1 h k) in
+    (z.0 ∙ sym (ap (λ (x : Store). x.words) e), z.1 ∙ sym (ap (λ (x : Store). x.bytes) e))
 
 pub returns-then-not-is_up : goal.returns-then-not-is_up
 returns-then-not-is_up c =
@@ -117,8 +116,8 @@ pub returns-then-is_waiting : goal.returns-then-is_waiting
 returns-then-is_waiting c =
     let p = c.requires in
     let k = c.put_core.auto in
-    let whole = ended c c.put_core.ensures.words_after c.put_core.ensures.bytes_after
-    (omega (arith, p.0, p.2, k.1.0)) c.drop_at.ensures in record {
+    let whole = ended c.before.before.before.before.before.before.before.before.before.before.before.before.before c.put_core.ensures.words_after c.put_core.ensures.bytes_after
+    (omega (arith, p.0, p.2, k.bytes)) c.drop_at.ensures in record {
       words_after = whole.0;
       bytes_after = whole.1;
     }
@@ -126,7 +125,7 @@ returns-then-is_waiting c =
 pub put_opened-requires : goal.put_opened-requires
 put_opened-requires c =
     let p = c.requires in
-    (p.0, p.1, p.2, ended-known (stored c.before.before.before) (index c.before.before.before) (made c).0 (sym c.is_waiting.ensures ∙ c.if-is_waiting.false))
+    (p.0, p.1, p.2, ended-known (stored c.before.before.before) (index c.before.before.before) (made c.before.before.before).0 (sym c.is_waiting.ensures ∙ c.if-is_waiting.false))
 
 pub overflow_mul-i-2 : goal.overflow_mul-i-2
 overflow_mul-i-2 c = omega (
@@ -144,8 +143,8 @@ pub returns : goal.returns
 returns c =
     let p = c.requires in
     let k = c.put_opened.auto in
-    let whole = ended c c.put_opened.ensures.words_after c.put_opened.ensures.bytes_after
-    (omega (arith, p.0, p.2, k.1.0)) c.drop_at-2.ensures in record {
+    let whole = ended c.before.before.before.before.before.before.before.before.before.before.before.before.before c.put_opened.ensures.words_after c.put_opened.ensures.bytes_after
+    (omega (arith, p.0, p.2, k.bytes)) c.drop_at-2.ensures in record {
       words_after = whole.0;
       bytes_after = whole.1;
     }

@@ -30,8 +30,8 @@ abbrev left : ℕ → ℕ → ℕ
 left w t = ones (Bits.bit_xor w (Bits.bit_and w t))
 
 abbrev Owned : After-loop-j → Type 0
-Owned c = left c.low_at-low.result c.loop-j.taken-low + left c.high_at-high.result
-    c.loop-j.taken-high ≡ slots c
+Owned c = left c.low_at-low.result c.loop-j.taken_low + left c.high_at-high.result
+    c.loop-j.taken_high ≡ slots c
 
 few : (c : After-loop-j) → slots c ≤ 80
 few c = how_many-le 80 _

@@ -15,8 +15,8 @@ returns-then-not-is_done c =
     let whole = refused-part (store a.words.now a.bytes.now) (part_of a.area.now a.at) a.j a.p
     c.answer_from-answer.ensures d in record {
       value = whole.0;
-      words_after = whole.1;
-      bytes_after = whole.2;
+      words_after = whole.1.0;
+      bytes_after = whole.1.1;
     }
 
 pub hear_from-requires : goal.hear_from-requires
@@ -40,6 +40,6 @@ returns c =
     let whole = done-part (store a.words.now a.bytes.now) (part_of a.area.now a.at) a.j a.p
     c.answer_from-answer.ensures d o.words_after o.bytes_after in record {
       value = whole.0;
-      words_after = whole.1;
-      bytes_after = whole.2;
+      words_after = whole.1.0;
+      bytes_after = whole.1.1;
     }

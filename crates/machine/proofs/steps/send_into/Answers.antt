@@ -14,10 +14,10 @@ returns-then-not-is_done c =
     let s = store a.words.now a.bytes.now in
     let d = sym c.is_done.ensures ∙ c.if-not-is_done.true in
     let e = c.answer_to-answer.ensures in
-    let whole = (e, into-refused s a.area.now a.at a.j (ap is_done (sym e) ∙ d)) in record {
-      value = whole.0;
-      bytes_after = whole.1;
-      area_after = whole.2;
+    let h = into-refused s a.area.now a.at a.j (ap is_done (sym e) ∙ d) in record {
+      value = e;
+      bytes_after = h.0;
+      area_after = h.1;
     }
 
 pub send_into-requires : goal.send_into-requires
@@ -39,8 +39,8 @@ returns c =
     ∙ c.if-not-is_done.false in
     let e = c.answer_to-answer.ensures in
     let o = c.send_into.ensures in
-    let whole = (e, into-done s a.area.now a.at a.j (ap is_done (sym e) ∙ d) o.bytes_after o.area_after) in record {
-      value = whole.0;
-      bytes_after = whole.1;
-      area_after = whole.2;
+    let h = into-done s a.area.now a.at a.j (ap is_done (sym e) ∙ d) o.bytes_after o.area_after in record {
+      value = e;
+      bytes_after = h.0;
+      area_after = h.1;
     }

@@ -16,10 +16,10 @@ returns-then-not-is_done c =
     let whole = refused s l a.e c.answer_to-a.ensures
     (sym c.is_done.ensures ∙ c.if-not-is_done.true) in record {
       value = whole.0;
-      words_after = whole.1;
-      bytes_after = whole.2;
-      bytes_after_2 = whole.3;
-      area_after = whole.4;
+      words_after = whole.1.0;
+      bytes_after = whole.1.1.0;
+      bytes_after_2 = whole.1.1.1.0;
+      area_after = whole.1.1.1.1;
     }
 
 pub apply-requires : goal.apply-requires
@@ -42,8 +42,8 @@ returns c =
     let o = c.apply.ensures in
     let whole = accepted s l a.e q.0 c.answer_to-a.ensures d o.words_after o.bytes_after o.area_after in record {
       value = whole.0;
-      words_after = whole.1;
-      bytes_after = whole.2;
-      bytes_after_2 = whole.3;
-      area_after = whole.4;
+      words_after = whole.1.0;
+      bytes_after = whole.1.1.0;
+      bytes_after_2 = whole.1.1.1.0;
+      area_after = whole.1.1.1.1;
     }

@@ -17,9 +17,9 @@ returns-then-not-is_done c =
     let whole = refused-plain a.ok s a.day a.area.now (windows_in a.w.now) c.answer_to-plain.ensures
     (sym d.ensures ∙ c.if-not-is_done.true) in record {
       value = whole.0;
-      words_after = whole.1;
-      bytes_after = whole.2;
-      area_after = whole.3;
+      words_after = whole.1.0;
+      bytes_after = whole.1.1.0;
+      area_after = whole.1.1.1;
     }
 
 pub returns-then-not-ok : goal.returns-then-not-ok
@@ -30,9 +30,9 @@ returns-then-not-ok c =
     let whole = refused-list a.ok s a.day a.area.now (windows_in a.w.now) c.answer_to-plain.ensures
     (sym d.ensures ∙ c.if-not-is_done.false) (c.if-not-ok.true) in record {
       value = whole.0;
-      words_after = whole.1;
-      bytes_after = whole.2;
-      area_after = whole.3;
+      words_after = whole.1.0;
+      bytes_after = whole.1.1.0;
+      area_after = whole.1.1.1;
     }
 
 pub begin-next-requires : goal.begin-next-requires
@@ -58,7 +58,7 @@ returns c =
     (c.if-not-ok.false)
     g b.ensures.value o.words_after o.bytes_after o.area_after in record {
       value = whole.0;
-      words_after = whole.1;
-      bytes_after = whole.2;
-      area_after = whole.3;
+      words_after = whole.1.0;
+      bytes_after = whole.1.1.0;
+      area_after = whole.1.1.1;
     }

@@ -15,9 +15,9 @@ returns-then-words-bytes c =
     let a = c.args in
     let whole = short-load (store a.words.now a.bytes.now) a.f a.t a.length (windows_in a.w.now) c.if-words-bytes.true in record {
       value = whole.0;
-      words_after = whole.1;
-      bytes_after = whole.2;
-      bytes_after_2 = whole.3;
+      words_after = whole.1.0;
+      bytes_after = whole.1.1.0;
+      bytes_after_2 = whole.1.1.1;
     }
 
 pub returns-then-not-is_done : goal.returns-then-not-is_done
@@ -30,9 +30,9 @@ returns-then-not-is_done c =
     c.if-words-bytes.false
     (load-plain a.f a.t a.length (windows_in a.w.now) (sym (ap is_done p.ensures) ∙ h) ∙ sym p.ensures) h in record {
       value = whole.0;
-      words_after = whole.1;
-      bytes_after = whole.2;
-      bytes_after_2 = whole.3;
+      words_after = whole.1.0;
+      bytes_after = whole.1.1.0;
+      bytes_after_2 = whole.1.1.1;
     }
 
 pub returns-then-not-list_ok : goal.returns-then-not-list_ok
@@ -46,9 +46,9 @@ returns-then-not-list_ok c =
     (sym (ap is_done p.ensures) ∙ sym d.ensures ∙ c.if-not-is_done.false)
     (sym ok.ensures ∙ c.if-not-list_ok.true)) refl in record {
       value = whole.0;
-      words_after = whole.1;
-      bytes_after = whole.2;
-      bytes_after_2 = whole.3;
+      words_after = whole.1.0;
+      bytes_after = whole.1.1.0;
+      bytes_after_2 = whole.1.1.1;
     }
 
 pub given_table-requires : goal.given_table-requires
@@ -69,7 +69,7 @@ returns c =
     (sym ok.ensures ∙ c.if-not-list_ok.false))
     c.given_table.ensures o.value o.words_after o.bytes_after o.bytes_after_2 in record {
       value = whole.0;
-      words_after = whole.1;
-      bytes_after = whole.2;
-      bytes_after_2 = whole.3;
+      words_after = whole.1.0;
+      bytes_after = whole.1.1.0;
+      bytes_after_2 = whole.1.1.1;
     }

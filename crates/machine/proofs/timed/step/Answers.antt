@@ -7,11 +7,12 @@ use Rattle.machine.proofs.timed.step.Goals as goal
 pub returns : goal.returns
 returns c =
     let a = c.args in
+    let o = c.step_tested.ensures in
     let whole = by-list (store a.words.now a.bytes.now) a.day a.area.now (windows_in a.w.now) a.e c.tested-ok.ensures
-    c.step_tested.ensures in record {
+    (o.value, (o.words_after, (o.bytes_after, o.area_after))) in record {
       value = whole.0;
-      words_after = whole.1;
-      bytes_after = whole.2;
-      bytes_after_2 = whole.3;
-      area_after = whole.4;
+      words_after = whole.1.0;
+      bytes_after = whole.1.1.0;
+      bytes_after_2 = whole.1.1.1.0;
+      area_after = whole.1.1.1.1;
     }

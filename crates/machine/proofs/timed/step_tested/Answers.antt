@@ -17,11 +17,11 @@ returns-then-is_end c =
     let o = c.end in
     let g : End ≡ a.e = sym (end_is a.e (sym c.is_end.ensures ∙ c.if-is_end.true)) in
     let whole = subst (λ (e : Event). TestedIs a.ok s a.day a.area.now (windows_in a.w.now) e o.result.answer o.result.day
-    o.new.words o.new.bytes o.new.area) g o.ensures in record {
+    o.new.words o.new.bytes o.new.area) g (o.ensures.value, (o.ensures.words_after, (o.ensures.bytes_after, o.ensures.area_after))) in record {
       value = whole.0;
-      words_after = whole.1;
-      bytes_after = whole.2;
-      area_after = whole.3;
+      words_after = whole.1.0;
+      bytes_after = whole.1.1.0;
+      area_after = whole.1.1.1;
     }
 
 pub returns : goal.returns
@@ -32,7 +32,7 @@ returns c =
     let f : is_end a.e ≡ false = sym c.is_end.ensures ∙ c.if-is_end.false in
     let whole = plain-tested a.ok s a.day a.area.now (windows_in a.w.now) a.e f o.value o.words_after o.bytes_after o.area_after in record {
       value = whole.0;
-      words_after = whole.1;
-      bytes_after = whole.2;
-      area_after = whole.3;
+      words_after = whole.1.0;
+      bytes_after = whole.1.1.0;
+      area_after = whole.1.1.1;
     }
