@@ -44,7 +44,7 @@ pub fn put_reason(out: &mut [u8], at: usize, line: u32, number: u32, t: NodeRepo
     if !t.live {
         return at;
     }
-    let g = t.ground;
+    let g = t.grounds;
     let mut b = [0u8; 44];
     let n = row(&mut b, line, number, g);
     lists::put_bytes(out, at, &b[..n])

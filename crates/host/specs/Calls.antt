@@ -103,25 +103,25 @@ ground_bytes g = rule_number g.rule ∷ g.missing ∷ []
 
 -- a node's answer to a close with an output and a place for its ground: 4, 15
 abbrev pub closed_answer : Node → List ℕ → List ℕ → Answer
-closed_answer n out ground = and_then (close_answer n) (and_then (room_answer ground_size ground) (close_room (closed_node n) out))
+closed_answer n out grounds = and_then (close_answer n) (and_then (room_answer ground_size grounds) (close_room (closed_node n) out))
 
 -- close: 14, 4, 15
 unfoldable pub closing_of : List ℕ → List ℕ → List ℕ → Answer
-closing_of a out ground = and_then (is_node_area a) (closed_answer (decoded a) out ground)
+closing_of a out grounds = and_then (is_node_area a) (closed_answer (decoded a) out grounds)
 
 unfoldable pub after_close : List ℕ → List ℕ → List ℕ → List ℕ
-after_close a out ground = unless_refused (closing_of a out ground) (closed_node (decoded a)) a
+after_close a out grounds = unless_refused (closing_of a out grounds) (closed_node (decoded a)) a
 
 -- what a close sends: version and schedule, or nothing
 abbrev pub close_bytes : Node → List ℕ
 close_bytes n = cond (sending n.phase) (schedule_bytes (sent_by n)) []
 
 unfoldable pub out_close : List ℕ → List ℕ → List ℕ → List ℕ
-out_close a out ground = output (closing_of a out ground) (close_bytes (closed_node (decoded a))) out
+out_close a out grounds = output (closing_of a out grounds) (close_bytes (closed_node (decoded a))) out
 
 -- what the place of the ground holds then
 unfoldable pub ground_close : List ℕ → List ℕ → List ℕ → List ℕ
-ground_close a out ground = output (closing_of a out ground) (ground_bytes (ground_of (decoded a))) ground
+ground_close a out grounds = output (closing_of a out grounds) (ground_bytes (ground_of (decoded a))) grounds
 
 -- a node's answer to a schedule's bytes: 4, 10, 11, 12
 abbrev pub taken_answer : Node → List ℕ → Answer

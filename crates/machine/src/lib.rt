@@ -70,7 +70,7 @@ impl Day {
 #[derive(Clone, Copy)]
 pub struct NodeReport {
     pub live: bool,
-    pub ground: Ground,
+    pub grounds: Ground,
 }
 
 // What each of the nodes reports.

@@ -19,7 +19,7 @@ pub fn no_report() -> NodeReport
 {
     NodeReport {
         live: false,
-        ground: Ground {
+        grounds: Ground {
             rule: Rule::RequestMissing,
             missing: 0,
         },
@@ -32,8 +32,11 @@ fn tell(words: &[u32], bytes: &[u8], j: u32) -> NodeReport
 {
     if crate::look::is_live(words, bytes, j) {
         let c = crate::look::core(words, bytes, j);
-        let ground = c.ground();
-        return NodeReport { live: true, ground };
+        let grounds = c.ground();
+        return NodeReport {
+            live: true,
+            grounds,
+        };
     }
     no_report()
 }
@@ -75,7 +78,7 @@ fn tell_all(words: &[u32], bytes: &[u8]) -> Report
 fn report_byte(t: NodeReport, k: usize) -> u8
     ensures { result ≡ report_byte t k }
 {
-    let g = t.ground;
+    let g = t.grounds;
     if k != 0 {
         return g.missing;
     }

@@ -159,7 +159,7 @@ after_by c e = cond (is_done (answer_by c e)) (next_by c e) c
 -- Reports
 
 unfoldable pub told_for : Bool → MemberOutline → NodeReport
-told_for accepted m = cond (accepted && live_by m) (record { live = true; ground = ground_by m.node }) no_node_report
+told_for accepted m = cond (accepted && live_by m) (record { live = true; grounds = ground_by m.node }) no_node_report
 
 unfoldable pub report_for : Bool → List MemberOutline → Report
 report_for accepted ms = record { nodes = tab 32 (λ i. told_for accepted (get_or ms i (member_outline nobody))) }

@@ -128,7 +128,7 @@ module _ (s : Site) (area : List ℕ) (air : List Packet) (h : Sound s area air)
 
 told_is : (t : Bool) (m : Member) → member_report t m ≡ told_for t (member_outline m)
 unfolding member_report told_for
-told_is t m = ap (λ (g : Ground). cond (t && is_live m) (record { live = true; ground = g }) no_node_report) (grounds m.node)
+told_is t m = ap (λ (g : Ground). cond (t && is_live m) (record { live = true; grounds = g }) no_node_report) (grounds m.node)
 
 pub report-of : (t : Bool) (ms : List Member) → report_of t ms ≡ report_for t (map member_outline ms)
 unfolding report_of report_for

@@ -53,7 +53,7 @@ lent_calls = map (λ (e : Event). record { event = e; windows = example_windows 
 
 -- the rule's number and the missing node of nodes 1 and 2
 abbrev pub rule_in : Report → ℕ → List ℕ
-rule_in r i = rule_number (get_or r.nodes i no_node_report).ground.rule ∷ (get_or r.nodes i no_node_report).ground.missing ∷ []
+rule_in r i = rule_number (get_or r.nodes i no_node_report).grounds.rule ∷ (get_or r.nodes i no_node_report).grounds.missing ∷ []
 
 abbrev pub rules_in : List Report → List (List (List ℕ))
 rules_in rs = map (λ (r : Report). rule_in r 0 ∷ rule_in r 1 ∷ []) rs

@@ -32,8 +32,8 @@ reason-short : (n j : ℕ) (t : NodeReport) → n < 100000 → length (reason n 
 unfolding reason tens
 reason-short n j t h = go t.live
   where
-    go : (b : Bool) → length (cond b (reason_line n j t.ground) []) ≤ 39
-    go true = omega (arith, line-parts n j t.ground, digits-short 4 10 n h, digits-at-most 10 j, digits-at-most 10 t.ground.missing)
+    go : (b : Bool) → length (cond b (reason_line n j t.grounds) []) ≤ 39
+    go true = omega (arith, line-parts n j t.grounds, digits-short 4 10 n h, digits-at-most 10 j, digits-at-most 10 t.grounds.missing)
     go false = omega arith
 
 reason_of-short : (j n : ℕ) (ts : List NodeReport) → n < 100000 → length (reason_of j n ts) ≤ 39

@@ -64,7 +64,7 @@ line-put n j g {l} h t1 t2 t3 t4 t5 t6 t7 =
     finish-by (10 ∷ []) (step (decimal g.missing) (10 ∷ []) q5 t6) t7
 
 -- a node that reports, and one that doesn't
-pub reason-some : (n j : ℕ) (t : NodeReport) → t.live ≡ true → reason_line n j t.ground ≡ reason n j t
+pub reason-some : (n j : ℕ) (t : NodeReport) → t.live ≡ true → reason_line n j t.grounds ≡ reason n j t
 unfolding reason
 reason-some n j t e = sym (hit _ _ _ e)
 

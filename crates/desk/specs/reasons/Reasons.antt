@@ -29,7 +29,7 @@ reason_line n j g = decimal n ++ (32 ∷ (decimal j ++ (32 ∷ (rule_text g.rule
 
 -- of a node that reports nothing no line
 unfoldable pub reason : ℕ → ℕ → NodeReport → List ℕ
-reason n j t = cond t.live (reason_line n j t.ground) []
+reason n j t = cond t.live (reason_line n j t.grounds) []
 
 -- the line of node j among the reports of all; 0 is no node
 unfoldable pub reason_of : ℕ → ℕ → List NodeReport → List ℕ

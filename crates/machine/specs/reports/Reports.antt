@@ -22,7 +22,7 @@ use Rattle.machine.specs.declared.Report.{Report}
 
 -- nothing is reported
 abbrev pub no_node_report : NodeReport
-no_node_report = record { live = false; ground = record { rule = RequestMissing; missing = 0 } }
+no_node_report = record { live = false; grounds = record { rule = RequestMissing; missing = 0 } }
 
 -- of no node
 abbrev pub no_report : Report
@@ -30,7 +30,7 @@ no_report = record { nodes = replicate 32 no_node_report }
 
 -- what a member reports, where a close was accepted
 unfoldable pub member_report : Bool → Member → NodeReport
-member_report accepted m = cond (accepted && is_live m) (record { live = true; ground = ground_of m.node }) no_node_report
+member_report accepted m = cond (accepted && is_live m) (record { live = true; grounds = ground_of m.node }) no_node_report
 
 -- the reports of all members, that of node j at index j - 1
 unfoldable pub report_of : Bool → List Member → Report
@@ -54,7 +54,7 @@ node_report_in s area e j = member_report (reported_in s area e) (member_read s 
 -- a report in bytes: of node j at 2 * (j - 1) the rule's number, and behind it the lowest missing node, as a box's close gives them;
 -- both are 0 of a node that reports nothing
 abbrev pub report_byte : NodeReport → ℕ → ℕ
-report_byte t k = cond (eqb k 0) (cond t.live (rule_number t.ground.rule) 0) t.ground.missing
+report_byte t k = cond (eqb k 0) (cond t.live (rule_number t.grounds.rule) 0) t.grounds.missing
 
 abbrev pub reports_size : ℕ
 reports_size = 64

@@ -12,11 +12,11 @@ returns-then-not-t c = retry (sym (reason-none _ _ _ (not-true _ c.if-not-t.true
 
 pub slice_bounds-b-end : goal.slice_bounds-b-end
 slice_bounds-b-end c =
-    ends-within (line-long _ _ c.args.t.ground) c.row-n.ensures
+    ends-within (line-long _ _ c.args.t.grounds) c.row-n.ensures
 
 pub slice_bounds-put_bytes-end : goal.slice_bounds-put_bytes-end
 slice_bounds-put_bytes-end c =
-    sym (length-take-le _ _ (ends-within (line-long _ _ c.args.t.ground) c.row-n.ensures))
+    sym (length-take-le _ _ (ends-within (line-long _ _ c.args.t.grounds) c.row-n.ensures))
 
 pub returns : goal.returns
 returns c =

@@ -14,7 +14,7 @@ use Rattle.machine.specs.declared.NodeReport.{NodeReport}
 use Rattle.machine.proofs.reports.tell.Goals as goal
 
 abbrev telling : Ground → NodeReport
-telling g = record { live = true; ground = g }
+telling g = record { live = true; grounds = g }
 
 pub returns-then-is_live : goal.returns-then-is_live
 unfolding member_report

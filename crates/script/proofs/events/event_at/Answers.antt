@@ -20,9 +20,28 @@ off zero x y h = refl
 off (suc n) x y h = ap (λ (k : Kind). k.event x y) (sym (get_or-eq_default (no_kind ∷ kinds) no_kind (h (omega arith))))
 
 pub returns-in_default : goal.returns-in_default
-returns-in_default c =
-    let r = c.in-1.rest in
-    let l = r.0.0.0.0 in
-    off c.args.n _ _
-    (λ p. let q : 5 ≤ c.args.n = omega (arith, p, l.1, l.0.1, l.0.0.1, l.0.0.0.1) in omega
-    (arith, q, r.1, r.0.1, r.0.0.1, r.0.0.0.1))
+returns-in_default c = off c.args.n _ _ (search rules)
+
+pub returns-in-2 : goal.returns-in-2
+returns-in-2 c = row _ _ c.in-2.is refl
+
+pub returns-in-4 : goal.returns-in-4
+returns-in-4 c = row _ _ c.in-4.is refl
+
+pub returns-in-6 : goal.returns-in-6
+returns-in-6 c = row _ _ c.in-6.is refl
+
+pub returns-in-8 : goal.returns-in-8
+returns-in-8 c = row _ _ c.in-8.is refl
+
+pub returns-in-1 : goal.returns-in-1
+returns-in-1 c = row _ _ c.in-1.is c.zero_there.ensures
+
+pub returns-in-3 : goal.returns-in-3
+returns-in-3 c = row _ _ c.in-3.is c.zeros_there.ensures
+
+pub returns-in-5 : goal.returns-in-5
+returns-in-5 c = row _ _ c.in-5.is c.zeros_there-in-5.ensures
+
+pub returns-in-7 : goal.returns-in-7
+returns-in-7 c = row _ _ c.in-7.is c.zero_there-in-7.ensures

@@ -8,70 +8,13 @@ use mathlib.Core.Path.{◌≡◌, ap}
 use Prim.Native.Nat.{ℕ, ◌≤◌, ◌<◌, ◌-◌, ◌+◌}
 use native.Mathlib.Omega.{arith}
 use Rattle.script.proofs.lines.line_end.Goals as goal
-use Rattle.script.proofs.lines.line_end.Goals.{Else-s-i-eq10, Else-s-i-eq10-2, Else-s-i-eq10-3, Else-s-i-eq10-4, Else-s-i-eq10-5, Else-s-i-eq10-6, Else-s-i-eq10-7, Else-s-i-eq10-8, In-loop-i}
 
--- the script and the place of a turn, and that none of the first k bytes there is byte 10
-abbrev text : In-loop-i → List ℕ
-text l = l.args.s.now
+-- none of the first k bytes from i on is byte 10
+abbrev Past : List ℕ → ℕ → ℕ → ℕ → Type 0
+Past s at i k = at + before 10 (drop at s) ≡ i + k + before 10 (drop (i + k) s)
 
-abbrev place : In-loop-i → ℕ
-place l = l.loop-i.i
-
-abbrev Past : In-loop-i → ℕ → Type 0
-Past l k = l.args.at + before 10 (drop l.args.at (text l))
-    ≡ place l + k + before 10 (drop (place l + k) (text l))
-
-ends : (l : In-loop-i) (k : ℕ) → place l + k < length (text l) → Past l k → get_or (text l) (place l + k) 0 ≡ 10
-    → place l + k ≡ l.args.at + before 10 (drop l.args.at (text l))
-ends l k h p e = omega (arith, before_here 10 (text l) (place l + k) h e)
-
-abbrev turn1 : Else-s-i-eq10 → In-loop-i
-turn1 c = c
-
-abbrev turn2 : Else-s-i-eq10-2 → In-loop-i
-turn2 c = turn1 c.before.before.before
-
-abbrev turn3 : Else-s-i-eq10-3 → In-loop-i
-turn3 c = turn2 c.before.before.before
-
-abbrev turn4 : Else-s-i-eq10-4 → In-loop-i
-turn4 c = turn3 c.before.before.before
-
-abbrev turn5 : Else-s-i-eq10-5 → In-loop-i
-turn5 c = turn4 c.before.before.before
-
-abbrev turn6 : Else-s-i-eq10-6 → In-loop-i
-turn6 c = turn5 c.before.before.before
-
-abbrev turn7 : Else-s-i-eq10-7 → In-loop-i
-turn7 c = turn6 c.before.before.before
-
-abbrev turn8 : Else-s-i-eq10-8 → In-loop-i
-turn8 c = turn7 c.before.before.before
-
-past1 : (c : Else-s-i-eq10) → Past (turn1 c) 1
-past1 c = omega (arith, before_more 10 (text (turn1 c)) (place (turn1 c)) (omega arith) c.if-s-i-eq10.false)
-
-past2 : (c : Else-s-i-eq10-2) → Past (turn2 c) 2
-past2 c = none-there (text (turn2 c)) (place (turn2 c)) 1 (omega arith) (past1 c.before.before.before) c.if-s-i-eq10-2.false
-
-past3 : (c : Else-s-i-eq10-3) → Past (turn3 c) 3
-past3 c = none-there (text (turn3 c)) (place (turn3 c)) 2 (omega arith) (past2 c.before.before.before) c.if-s-i-eq10-3.false
-
-past4 : (c : Else-s-i-eq10-4) → Past (turn4 c) 4
-past4 c = none-there (text (turn4 c)) (place (turn4 c)) 3 (omega arith) (past3 c.before.before.before) c.if-s-i-eq10-4.false
-
-past5 : (c : Else-s-i-eq10-5) → Past (turn5 c) 5
-past5 c = none-there (text (turn5 c)) (place (turn5 c)) 4 (omega arith) (past4 c.before.before.before) c.if-s-i-eq10-5.false
-
-past6 : (c : Else-s-i-eq10-6) → Past (turn6 c) 6
-past6 c = none-there (text (turn6 c)) (place (turn6 c)) 5 (omega arith) (past5 c.before.before.before) c.if-s-i-eq10-6.false
-
-past7 : (c : Else-s-i-eq10-7) → Past (turn7 c) 7
-past7 c = none-there (text (turn7 c)) (place (turn7 c)) 6 (omega arith) (past6 c.before.before.before) c.if-s-i-eq10-7.false
-
-past8 : (c : Else-s-i-eq10-8) → Past (turn8 c) 8
-past8 c = none-there (text (turn8 c)) (place (turn8 c)) 7 (omega arith) (past7 c.before.before.before) c.if-s-i-eq10-8.false
+ends : (s : List ℕ) (at i k : ℕ) → i + k < length s → Past s at i k → get_or s (i + k) 0 ≡ 10 → i + k ≡ at + before 10 (drop at s)
+ends s at i k h p e = omega (arith, before_here 10 s (i + k) h e)
 
 pub loop-i-init : goal.loop-i-init
 loop-i-init c = (search rules, omega arith)
@@ -84,7 +27,7 @@ bounds-s-i c = omega arith
 
 pub returns-then-s-i-eq10 : goal.returns-then-s-i-eq10
 returns-then-s-i-eq10 c = record {
-  value = omega (arith, before_here 10 (text c.before.before.before) (place c.before.before.before) (omega arith) c.if-s-i-eq10.true);
+  value = omega (arith, before_here 10 c.args.s.now c.loop-i.i (omega arith) c.if-s-i-eq10.true);
   within = omega arith;
 }
 
@@ -98,10 +41,13 @@ pub overflow_add-result : goal.overflow_add-result
 overflow_add-result c = omega arith
 
 pub returns-then-s-i-eq10-2 : goal.returns-then-s-i-eq10-2
-returns-then-s-i-eq10-2 c = record {
-  value = ends (turn1 c.before.before.before) 1 (omega arith) (past1 c.before.before.before) c.if-s-i-eq10-2.true;
-  within = omega arith;
-}
+returns-then-s-i-eq10-2 c =
+    let s = c.args.s.now in
+    let i = c.loop-i.i in
+    let p1 : Past s c.args.at i 1 = omega (arith, before_more 10 s i (omega arith) c.if-s-i-eq10.false) in record {
+      value = ends s c.args.at i 1 (omega arith) p1 c.if-s-i-eq10-2.true;
+      within = omega arith;
+    }
 
 pub overflow_add-i-in-loop-i : goal.overflow_add-i-in-loop-i
 overflow_add-i-in-loop-i c = omega arith
@@ -113,10 +59,14 @@ pub overflow_add-result-then-s-i-eq10-3 : goal.overflow_add-result-then-s-i-eq10
 overflow_add-result-then-s-i-eq10-3 c = omega arith
 
 pub returns-then-s-i-eq10-3 : goal.returns-then-s-i-eq10-3
-returns-then-s-i-eq10-3 c = record {
-  value = ends (turn2 c.before.before.before) 2 (omega arith) (past2 c.before.before.before) c.if-s-i-eq10-3.true;
-  within = omega arith;
-}
+returns-then-s-i-eq10-3 c =
+    let s = c.args.s.now in
+    let i = c.loop-i.i in
+    let p1 : Past s c.args.at i 1 = omega (arith, before_more 10 s i (omega arith) c.if-s-i-eq10.false) in
+    let p2 : Past s c.args.at i 2 = none-there s i 1 (omega arith) p1 c.if-s-i-eq10-2.false in record {
+      value = ends s c.args.at i 2 (omega arith) p2 c.if-s-i-eq10-3.true;
+      within = omega arith;
+    }
 
 pub overflow_add-i-in-loop-i-2 : goal.overflow_add-i-in-loop-i-2
 overflow_add-i-in-loop-i-2 c = omega arith
@@ -128,10 +78,15 @@ pub overflow_add-result-then-s-i-eq10-4 : goal.overflow_add-result-then-s-i-eq10
 overflow_add-result-then-s-i-eq10-4 c = omega arith
 
 pub returns-then-s-i-eq10-4 : goal.returns-then-s-i-eq10-4
-returns-then-s-i-eq10-4 c = record {
-  value = ends (turn3 c.before.before.before) 3 (omega arith) (past3 c.before.before.before) c.if-s-i-eq10-4.true;
-  within = omega arith;
-}
+returns-then-s-i-eq10-4 c =
+    let s = c.args.s.now in
+    let i = c.loop-i.i in
+    let p1 : Past s c.args.at i 1 = omega (arith, before_more 10 s i (omega arith) c.if-s-i-eq10.false) in
+    let p2 : Past s c.args.at i 2 = none-there s i 1 (omega arith) p1 c.if-s-i-eq10-2.false in
+    let p3 : Past s c.args.at i 3 = none-there s i 2 (omega arith) p2 c.if-s-i-eq10-3.false in record {
+      value = ends s c.args.at i 3 (omega arith) p3 c.if-s-i-eq10-4.true;
+      within = omega arith;
+    }
 
 pub overflow_add-i-in-loop-i-3 : goal.overflow_add-i-in-loop-i-3
 overflow_add-i-in-loop-i-3 c = omega arith
@@ -143,10 +98,16 @@ pub overflow_add-result-then-s-i-eq10-5 : goal.overflow_add-result-then-s-i-eq10
 overflow_add-result-then-s-i-eq10-5 c = omega arith
 
 pub returns-then-s-i-eq10-5 : goal.returns-then-s-i-eq10-5
-returns-then-s-i-eq10-5 c = record {
-  value = ends (turn4 c.before.before.before) 4 (omega arith) (past4 c.before.before.before) c.if-s-i-eq10-5.true;
-  within = omega arith;
-}
+returns-then-s-i-eq10-5 c =
+    let s = c.args.s.now in
+    let i = c.loop-i.i in
+    let p1 : Past s c.args.at i 1 = omega (arith, before_more 10 s i (omega arith) c.if-s-i-eq10.false) in
+    let p2 : Past s c.args.at i 2 = none-there s i 1 (omega arith) p1 c.if-s-i-eq10-2.false in
+    let p3 : Past s c.args.at i 3 = none-there s i 2 (omega arith) p2 c.if-s-i-eq10-3.false in
+    let p4 : Past s c.args.at i 4 = none-there s i 3 (omega arith) p3 c.if-s-i-eq10-4.false in record {
+      value = ends s c.args.at i 4 (omega arith) p4 c.if-s-i-eq10-5.true;
+      within = omega arith;
+    }
 
 pub overflow_add-i-in-loop-i-4 : goal.overflow_add-i-in-loop-i-4
 overflow_add-i-in-loop-i-4 c = omega arith
@@ -158,10 +119,17 @@ pub overflow_add-result-then-s-i-eq10-6 : goal.overflow_add-result-then-s-i-eq10
 overflow_add-result-then-s-i-eq10-6 c = omega arith
 
 pub returns-then-s-i-eq10-6 : goal.returns-then-s-i-eq10-6
-returns-then-s-i-eq10-6 c = record {
-  value = ends (turn5 c.before.before.before) 5 (omega arith) (past5 c.before.before.before) c.if-s-i-eq10-6.true;
-  within = omega arith;
-}
+returns-then-s-i-eq10-6 c =
+    let s = c.args.s.now in
+    let i = c.loop-i.i in
+    let p1 : Past s c.args.at i 1 = omega (arith, before_more 10 s i (omega arith) c.if-s-i-eq10.false) in
+    let p2 : Past s c.args.at i 2 = none-there s i 1 (omega arith) p1 c.if-s-i-eq10-2.false in
+    let p3 : Past s c.args.at i 3 = none-there s i 2 (omega arith) p2 c.if-s-i-eq10-3.false in
+    let p4 : Past s c.args.at i 4 = none-there s i 3 (omega arith) p3 c.if-s-i-eq10-4.false in
+    let p5 : Past s c.args.at i 5 = none-there s i 4 (omega arith) p4 c.if-s-i-eq10-5.false in record {
+      value = ends s c.args.at i 5 (omega arith) p5 c.if-s-i-eq10-6.true;
+      within = omega arith;
+    }
 
 pub overflow_add-i-in-loop-i-5 : goal.overflow_add-i-in-loop-i-5
 overflow_add-i-in-loop-i-5 c = omega arith
@@ -173,10 +141,18 @@ pub overflow_add-result-then-s-i-eq10-7 : goal.overflow_add-result-then-s-i-eq10
 overflow_add-result-then-s-i-eq10-7 c = omega arith
 
 pub returns-then-s-i-eq10-7 : goal.returns-then-s-i-eq10-7
-returns-then-s-i-eq10-7 c = record {
-  value = ends (turn6 c.before.before.before) 6 (omega arith) (past6 c.before.before.before) c.if-s-i-eq10-7.true;
-  within = omega arith;
-}
+returns-then-s-i-eq10-7 c =
+    let s = c.args.s.now in
+    let i = c.loop-i.i in
+    let p1 : Past s c.args.at i 1 = omega (arith, before_more 10 s i (omega arith) c.if-s-i-eq10.false) in
+    let p2 : Past s c.args.at i 2 = none-there s i 1 (omega arith) p1 c.if-s-i-eq10-2.false in
+    let p3 : Past s c.args.at i 3 = none-there s i 2 (omega arith) p2 c.if-s-i-eq10-3.false in
+    let p4 : Past s c.args.at i 4 = none-there s i 3 (omega arith) p3 c.if-s-i-eq10-4.false in
+    let p5 : Past s c.args.at i 5 = none-there s i 4 (omega arith) p4 c.if-s-i-eq10-5.false in
+    let p6 : Past s c.args.at i 6 = none-there s i 5 (omega arith) p5 c.if-s-i-eq10-6.false in record {
+      value = ends s c.args.at i 6 (omega arith) p6 c.if-s-i-eq10-7.true;
+      within = omega arith;
+    }
 
 pub overflow_add-i-in-loop-i-6 : goal.overflow_add-i-in-loop-i-6
 overflow_add-i-in-loop-i-6 c = omega arith
@@ -188,10 +164,19 @@ pub overflow_add-result-then-s-i-eq10-8 : goal.overflow_add-result-then-s-i-eq10
 overflow_add-result-then-s-i-eq10-8 c = omega arith
 
 pub returns-then-s-i-eq10-8 : goal.returns-then-s-i-eq10-8
-returns-then-s-i-eq10-8 c = record {
-  value = ends (turn7 c.before.before.before) 7 (omega arith) (past7 c.before.before.before) c.if-s-i-eq10-8.true;
-  within = omega arith;
-}
+returns-then-s-i-eq10-8 c =
+    let s = c.args.s.now in
+    let i = c.loop-i.i in
+    let p1 : Past s c.args.at i 1 = omega (arith, before_more 10 s i (omega arith) c.if-s-i-eq10.false) in
+    let p2 : Past s c.args.at i 2 = none-there s i 1 (omega arith) p1 c.if-s-i-eq10-2.false in
+    let p3 : Past s c.args.at i 3 = none-there s i 2 (omega arith) p2 c.if-s-i-eq10-3.false in
+    let p4 : Past s c.args.at i 4 = none-there s i 3 (omega arith) p3 c.if-s-i-eq10-4.false in
+    let p5 : Past s c.args.at i 5 = none-there s i 4 (omega arith) p4 c.if-s-i-eq10-5.false in
+    let p6 : Past s c.args.at i 6 = none-there s i 5 (omega arith) p5 c.if-s-i-eq10-6.false in
+    let p7 : Past s c.args.at i 7 = none-there s i 6 (omega arith) p6 c.if-s-i-eq10-7.false in record {
+      value = ends s c.args.at i 7 (omega arith) p7 c.if-s-i-eq10-8.true;
+      within = omega arith;
+    }
 
 pub overflow_add-i-in-loop-i-7 : goal.overflow_add-i-in-loop-i-7
 overflow_add-i-in-loop-i-7 c = omega arith
@@ -200,7 +185,18 @@ pub loop-i-smaller : goal.loop-i-smaller
 loop-i-smaller c = omega arith
 
 pub loop-i-preserved : goal.loop-i-preserved
-loop-i-preserved c = (omega arith, past8 c)
+loop-i-preserved c =
+    let s = c.args.s.now in
+    let i = c.loop-i.i in
+    let p1 : Past s c.args.at i 1 = omega (arith, before_more 10 s i (omega arith) c.if-s-i-eq10.false) in
+    let p2 : Past s c.args.at i 2 = none-there s i 1 (omega arith) p1 c.if-s-i-eq10-2.false in
+    let p3 : Past s c.args.at i 3 = none-there s i 2 (omega arith) p2 c.if-s-i-eq10-3.false in
+    let p4 : Past s c.args.at i 4 = none-there s i 3 (omega arith) p3 c.if-s-i-eq10-4.false in
+    let p5 : Past s c.args.at i 5 = none-there s i 4 (omega arith) p4 c.if-s-i-eq10-5.false in
+    let p6 : Past s c.args.at i 6 = none-there s i 5 (omega arith) p5 c.if-s-i-eq10-6.false in
+    let p7 : Past s c.args.at i 7 = none-there s i 6 (omega arith) p6 c.if-s-i-eq10-7.false in
+    let p8 : Past s c.args.at i 8 = none-there s i 7 (omega arith) p7 c.if-s-i-eq10-8.false in
+    (omega arith, p8)
 
 pub slice_bounds-find-count : goal.slice_bounds-find-count
 slice_bounds-find-count c = omega arith

@@ -22,7 +22,7 @@ returns-in-Wrong c =
     let e = names-wrong _ settings_names tt _ _ c.names_line-n.ensures.result_value c.in-Wrong.is in
     let q : Reads s (config_read (split 10 s)) c.refuse.result (opening (split 10 s)) = reads-config
     (ap config_of (then-refused behind _ _ e))
-    (reads-refused _ BadNames refl (then-refused (λ (u : Unit {0}) d. from_settings c) _ _ e)
+    (reads-refused _ BadNames refl (then-refused (λ (u : Unit {0}) d. from_settings d) _ _ e)
     (c.refuse.ensures ∙ ap (refused_at 1 BadNames) c.none.ensures)) in record {
       value = q.is;
       lines = q.lines;
