@@ -51,7 +51,7 @@ seen_on a (begins s v flags d) = record { answer = beginning a s v flags d; outp
 seen_on a (restarts s flags f) = record { answer = restarting a s flags f; outputs = [] }
 seen_on a (sends out) = record { answer = sending_of a out; outputs = out_send a out ∷ [] }
 seen_on a (hears p) = record { answer = hearing_of a p; outputs = [] }
-seen_on a (closes out ground) = record { answer = closing_of a out ground; outputs = out_close a out ground ∷ ground_close a out ground ∷ [] }
+seen_on a (closes out grounds) = record { answer = closing_of a out grounds; outputs = out_close a out grounds ∷ ground_close a out grounds ∷ [] }
 seen_on a (takes q) = record { answer = taking_of a q; outputs = [] }
 seen_on a ends = record { answer = ending_of a; outputs = [] }
 seen_on a (wants d) = record { answer = wanting_of a d; outputs = [] }
@@ -63,7 +63,7 @@ area_after_call a (begins s v flags d) = after_begin a s v flags d
 area_after_call a (restarts s flags f) = after_restart a s flags f
 area_after_call a (sends out) = a
 area_after_call a (hears p) = after_hear a p
-area_after_call a (closes out ground) = after_close a out ground
+area_after_call a (closes out grounds) = after_close a out grounds
 area_after_call a (takes q) = after_take a q
 area_after_call a ends = after_end a
 area_after_call a (wants d) = after_want a d
@@ -77,7 +77,7 @@ node_call_answer n (begins s v flags d) = start_answer s v flags d
 node_call_answer n (restarts s flags f) = restart_answer s flags f
 node_call_answer n (sends out) = sent_answer n out
 node_call_answer n (hears p) = heard_answer n p
-node_call_answer n (closes out ground) = closed_answer n out ground
+node_call_answer n (closes out grounds) = closed_answer n out grounds
 node_call_answer n (takes q) = taken_answer n q
 node_call_answer n ends = end_answer n
 node_call_answer n (wants d) = cond (ltb top_request d) OutOfRange Done
@@ -89,8 +89,8 @@ node_outputs n (begins s v flags d) = []
 node_outputs n (restarts s flags f) = []
 node_outputs n (sends out) = output (sent_answer n out) (packet_bytes (packet_of n)) out ∷ []
 node_outputs n (hears p) = []
-node_outputs n (closes out ground) = output (closed_answer n out ground) (close_bytes (closed_node n)) out
-    ∷ output (closed_answer n out ground) (ground_bytes (ground_of n)) ground ∷ []
+node_outputs n (closes out grounds) = output (closed_answer n out grounds) (close_bytes (closed_node n)) out
+    ∷ output (closed_answer n out grounds) (ground_bytes (ground_of n)) grounds ∷ []
 node_outputs n (takes q) = []
 node_outputs n ends = []
 node_outputs n (wants d) = []
@@ -106,7 +106,7 @@ next_node n (begins s v flags d) = starting s v flags d
 next_node n (restarts s flags f) = waiting s flags f 0
 next_node n (sends out) = n
 next_node n (hears p) = heard_node n (packet_in p)
-next_node n (closes out ground) = closed_node n
+next_node n (closes out grounds) = closed_node n
 next_node n (takes q) = taken_node n (schedule_in q)
 next_node n ends = ended_node n
 next_node n (wants d) = wanted_node n d

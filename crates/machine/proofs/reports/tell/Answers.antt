@@ -21,7 +21,7 @@ unfolding member_report
 returns-then-is_live c =
     let a = c.args in
     let m = member_read (store a.words.now a.bytes.now) a.j in
-    let ground = c.ground-ground.ensures ∙ ap (λ (x : Core). ground_of (bare x)) c.core-c.ensures ∙ ground-bare m.node in
+    let ground = c.ground-grounds.ensures ∙ ap (λ (x : Core). ground_of (bare x)) c.core-c.ensures ∙ ground-bare m.node in
     ap telling ground ∙ sym (hit _ _ _ (sym c.is_live.ensures ∙ c.if-is_live.true))
 
 pub returns : goal.returns
