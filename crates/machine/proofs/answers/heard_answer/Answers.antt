@@ -28,7 +28,7 @@ returns-then-not-is_packet c =
     let a = c.args in
     let s = store a.words.now a.bytes.now in
     sym (hit _ _ _ (ap (λ (x : SiteHeader). not (is_packet x a.p)) (sym c.header_at-k.ensures)
-    ∙ ap not (sym c.is_packet.ensures) ∙ c.if-not-is_packet.true-raw))
+    ∙ ap not (sym c.is_packet.ensures ∙ c.if-not-is_packet.true)))
     ∙ hear-rest s a.j c.ready-first.ensures (part_of a.area.now a.at) a.p
     (sym c.is_done.ensures ∙ c.if-not-is_done.false)
 
@@ -41,7 +41,7 @@ returns-then-not-is_done-2 c =
     ∙ ap (λ (x : SiteHeader). packet_answer x.config.nodes (part_of a.area.now a.at)) c.header_at-k.ensures in
     let d = sym c.is_done-2.ensures ∙ c.if-not-is_done-2.true in
     e ∙ sym (skip _ _ _ _ (ap (λ (x : SiteHeader). not (is_packet x a.p)) (sym c.header_at-k.ensures)
-    ∙ ap not (sym c.is_packet.ensures) ∙ c.if-not-is_packet.false-raw) (skip _ _ _ _ (ap is_done (sym e) ∙ d) refl))
+    ∙ ap not (sym c.is_packet.ensures ∙ c.if-not-is_packet.false)) (skip _ _ _ _ (ap is_done (sym e) ∙ d) refl))
     ∙ hear-rest s a.j c.ready-first.ensures (part_of a.area.now a.at) a.p
     (sym c.is_done.ensures ∙ c.if-not-is_done.false)
 
@@ -58,6 +58,6 @@ returns c =
     c.hear_answer.ensures ∙ heard-read s a.j o c.requires.0 c.requires.1 _
     ∙ ap (hear_answer (member_at (site_in s) a.j).node) (ap (λ (x : PacketRead). x.packet) c.packet_at-read.ensures)
     ∙ sym (skip _ _ _ _ (ap (λ (x : SiteHeader). not (is_packet x a.p)) (sym c.header_at-k.ensures)
-    ∙ ap not (sym c.is_packet.ensures) ∙ c.if-not-is_packet.false-raw) (hit _ _ _ (ap is_done (sym e) ∙ d)))
+    ∙ ap not (sym c.is_packet.ensures ∙ c.if-not-is_packet.false)) (hit _ _ _ (ap is_done (sym e) ∙ d)))
     ∙ hear-rest s a.j c.ready-first.ensures (part_of a.area.now a.at) a.p
     (sym c.is_done.ensures ∙ c.if-not-is_done.false)

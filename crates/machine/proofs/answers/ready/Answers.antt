@@ -30,7 +30,7 @@ returns-then-not-live c =
     let s = store a.words.now a.bytes.now in
     let o = out s c.header_at-k.ensures a.j c.outside.ensures c.if-outside.false in
     sym (skip _ _ _ _ o (skip _ _ _ _ (ap not (phase s c.header_at-k.ensures refl) ∙ c.if-not-k.false)
-    (hit _ _ _ (ap not (live s a.j o refl c.live.ensures refl) ∙ c.if-not-live.true-raw))))
+    (hit _ _ _ (ap not (live s a.j o refl c.live.ensures refl ∙ c.if-not-live.true)))))
 
 pub returns : goal.returns
 unfolding answer_ready
@@ -39,4 +39,4 @@ returns c =
     let s = store a.words.now a.bytes.now in
     let o = out s c.header_at-k.ensures a.j c.outside.ensures c.if-outside.false in
     sym (skip _ _ _ _ o (skip _ _ _ _ (ap not (phase s c.header_at-k.ensures refl) ∙ c.if-not-k.false)
-    (skip _ _ _ _ (ap not (live s a.j o refl c.live.ensures refl) ∙ c.if-not-live.false-raw) refl)))
+    (skip _ _ _ _ (ap not (live s a.j o refl c.live.ensures refl ∙ c.if-not-live.false)) refl)))

@@ -56,8 +56,7 @@ returns-then-not-is_sending c =
     c.outside-2.ensures
     c.if-outside.false in
     let v = or-neither _ _ w in
-    let y = ap not (by-phase s a.g v.1 refl sending c.phase-other.ensures c.is_sending.ensures refl)
-    ∙ c.if-not-is_sending.true-raw in
+    let y = ap not (by-phase s a.g v.1 refl sending c.phase-other.ensures c.is_sending.ensures refl ∙ c.if-not-is_sending.true) in
     let lives = ap₂ (λ (x y : Bool). not x || not y)
     (live s a.j v.0 refl c.live.ensures refl)
     (live s a.g v.1 refl c.live-2.ensures refl)
@@ -81,7 +80,7 @@ returns c =
     c.if-outside.false in
     let v = or-neither _ _ w in
     let y = ap not (by-phase s a.g v.1 refl sending c.phase-other.ensures
-    c.is_sending.ensures refl) ∙ c.if-not-is_sending.false-raw in
+    c.is_sending.ensures refl ∙ c.if-not-is_sending.false) in
     let lives = ap₂ (λ (x y : Bool). not x || not y)
     (live s a.j v.0 refl c.live.ensures refl)
     (live s a.g v.1 refl c.live-2.ensures refl)
