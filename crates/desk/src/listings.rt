@@ -409,8 +409,7 @@ fn why_numbers(
 
 // Runs a script for C, with the windows lent: the answer's number. The length of what is printed is written to `length`, which stays as
 // it was after a refusal.
-#[unsafe(no_mangle)]
-pub extern "C" fn hydra_replay(
+pub fn hydra_replay(
     script: &[u8],
     area: &mut [u8],
     out: &mut [u8],
@@ -432,8 +431,7 @@ pub extern "C" fn hydra_replay(
 }
 
 // The same for part j of the reasons: part 0 is their head, part j has those of node j.
-#[unsafe(no_mangle)]
-pub extern "C" fn hydra_why(
+pub fn hydra_why(
     script: &[u8],
     j: u32,
     area: &mut [u8],

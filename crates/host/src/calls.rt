@@ -14,8 +14,7 @@ use crate::{GROUND, NO_ROOM, NOT_A_NODE};
 use node::{Config, Core, Move, Setup};
 
 // A starting node.
-#[unsafe(no_mangle)]
-pub extern "C" fn hydra_begin(
+pub fn hydra_begin(
     area: &mut [u8],
     node: u32,
     nodes: u32,
@@ -49,8 +48,7 @@ pub extern "C" fn hydra_begin(
 }
 
 // A restarted node, which waits for the epoch's end.
-#[unsafe(no_mangle)]
-pub extern "C" fn hydra_restart(
+pub fn hydra_restart(
     area: &mut [u8],
     node: u32,
     nodes: u32,
@@ -82,8 +80,7 @@ pub extern "C" fn hydra_restart(
 }
 
 // The packet of this moment to the start of an output.
-#[unsafe(no_mangle)]
-pub extern "C" fn hydra_send(area: &[u8], out: &mut [u8]) -> u32
+pub fn hydra_send(area: &[u8], out: &mut [u8]) -> u32
     ensures value { result ≡ number (sending_of area.now out.old) }
     ensures out_after { out.new ≡ out_send area.now out.old }
 {
@@ -97,8 +94,7 @@ pub extern "C" fn hydra_send(area: &[u8], out: &mut [u8]) -> u32
 }
 
 // A packet off the air.
-#[unsafe(no_mangle)]
-pub extern "C" fn hydra_hear(area: &mut [u8], packet: &[u8]) -> u32
+pub fn hydra_hear(area: &mut [u8], packet: &[u8]) -> u32
     ensures value { result ≡ number (hearing_of area.old packet.now) }
     ensures area_after { area.new ≡ after_hear area.old packet.now }
 {
@@ -119,8 +115,7 @@ pub extern "C" fn hydra_hear(area: &mut [u8], packet: &[u8]) -> u32
 
 // The close of negotiation; a node that sends then writes version and schedule to the start of an output. Its ground goes to the start of
 // another.
-#[unsafe(no_mangle)]
-pub extern "C" fn hydra_close(area: &mut [u8], out: &mut [u8], ground: &mut [u8]) -> u32
+pub fn hydra_close(area: &mut [u8], out: &mut [u8], ground: &mut [u8]) -> u32
     ensures value { result ≡ number (closing_of area.old out.old ground.old) }
     ensures area_after { area.new ≡ after_close area.old out.old ground.old }
     ensures out_after { out.new ≡ out_close area.old out.old ground.old }
@@ -152,8 +147,7 @@ pub extern "C" fn hydra_close(area: &mut [u8], out: &mut [u8], ground: &mut [u8]
 }
 
 // A sender's version and schedule off the air.
-#[unsafe(no_mangle)]
-pub extern "C" fn hydra_take(area: &mut [u8], schedule: &[u8]) -> u32
+pub fn hydra_take(area: &mut [u8], schedule: &[u8]) -> u32
     ensures value { result ≡ number (taking_of area.old schedule.now) }
     ensures area_after { area.new ≡ after_take area.old schedule.now }
 {
@@ -176,8 +170,7 @@ pub extern "C" fn hydra_take(area: &mut [u8], schedule: &[u8]) -> u32
 }
 
 // The end of the round.
-#[unsafe(no_mangle)]
-pub extern "C" fn hydra_end(area: &mut [u8]) -> u32
+pub fn hydra_end(area: &mut [u8]) -> u32
     ensures value { result ≡ number (ending_of area.old) }
     ensures area_after { area.new ≡ after_end area.old }
 {
@@ -199,8 +192,7 @@ pub extern "C" fn hydra_end(area: &mut [u8]) -> u32
 }
 
 // Another demand.
-#[unsafe(no_mangle)]
-pub extern "C" fn hydra_want(area: &mut [u8], demand: u32) -> u32
+pub fn hydra_want(area: &mut [u8], demand: u32) -> u32
     ensures value { result ≡ number (wanting_of area.old demand) }
     ensures area_after { area.new ≡ after_want area.old demand }
 {
@@ -218,8 +210,7 @@ pub extern "C" fn hydra_want(area: &mut [u8], demand: u32) -> u32
 }
 
 // What a box acts on, to the start of an output.
-#[unsafe(no_mangle)]
-pub extern "C" fn hydra_read(area: &[u8], out: &mut [u8]) -> u32
+pub fn hydra_read(area: &[u8], out: &mut [u8]) -> u32
     ensures value { result ≡ number (reading_of area.now out.old) }
     ensures out_after { out.new ≡ out_read area.now out.old }
 {
@@ -234,8 +225,7 @@ pub extern "C" fn hydra_read(area: &[u8], out: &mut [u8]) -> u32
 
 // The slots of the node's own, as its two words and their number, to the start of an output: in negotiation alone, where no other node owns
 // one of them.
-#[unsafe(no_mangle)]
-pub extern "C" fn hydra_slots(area: &[u8], out: &mut [u64]) -> u32
+pub fn hydra_slots(area: &[u8], out: &mut [u64]) -> u32
     ensures value { result ≡ number (slots_answer area.now out.old) }
     ensures out_after { out.new ≡ out_slots area.now out.old }
 {

@@ -2,10 +2,10 @@
 // (version).
 #![tactic(auto)]
 
-mod calls;
-mod lookup;
+pub mod calls;
+pub mod lookup;
 mod steps;
-mod version;
+pub mod version;
 
 // What a lookup returns, and the demand that it writes.
 #[derive(Clone, Copy)]

@@ -53,8 +53,7 @@ fn demand_numbers(nodes: u32, node: u32, day: u32, l: Looked, epoch: u32, before
 
 // The same for C, with the windows lent: the demand of a node as an epoch begins is written to `demand`, which stays as
 // it was where the node has no windows and after a refusal.
-#[unsafe(no_mangle)]
-pub extern "C" fn hydra_demand(
+pub fn hydra_demand(
     nodes: u32,
     node: u32,
     day: u32,

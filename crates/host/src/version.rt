@@ -10,8 +10,7 @@ const MINOR: u32 = 0;
 const PATCH: u32 = 0;
 
 // The release as one number: 1,002,003 is 1.2.3.
-#[unsafe(no_mangle)]
-pub extern "C" fn hydra_version() -> u32
+pub fn hydra_version() -> u32
     ensures { result ≡ release }
 {
     1000000 * MAJOR + (1000 * MINOR + PATCH)

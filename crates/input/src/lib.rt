@@ -2,9 +2,10 @@
 #![tactic(auto)]
 
 ghost use Rattle.std.specs.Prelude.{◌≤◌, length};
-ghost use Rattle.io.specs.Counts.{IsPrefixLen};
+ghost use Rattle.input.specs.Counts.{IsPrefixLen};
 
-use libc::{STDERR_FILENO, STDIN_FILENO};
+use std::env::{Env, FillError};
+use std::io::{Print, Read};
 
 // How many bytes of the input stand at the start of a buffer, and whether there is nothing to run: a read failed before the input ended, or
 // the program was given arguments.
@@ -14,25 +15,30 @@ pub struct Input {
     pub failed: bool,
 }
 
-// One read of standard input to the start of a buffer. Length 0 without a failure is the input's end. Which bytes came, no contract of a
-// read says.
-fn read_once(buffer: &mut [u8]) -> Input
+// One read of an input to the start of a buffer. Length 0 without a failure is the input's end. Which bytes came, no contract of a read
+// says.
+fn read_once<R: Read>(from: &mut R, buffer: &mut [u8]) -> Input
     ensures { result.length ≤ length buffer.old }
 {
-    let got = libc::read(STDIN_FILENO, buffer);
-    Input {
-        length: io::count(got, buffer),
-        failed: got < 0,
+    match from.read(buffer) {
+        Ok(length) => Input {
+            length,
+            failed: false,
+        },
+        Err(_) => Input {
+            length: 0,
+            failed: true,
+        },
     }
 }
 
-// Reads standard input until it ends, the buffer is full, or a read fails.
-fn read_input(buffer: &mut [u8]) -> Input
+// Reads an input until it ends, the buffer is full, or a read fails.
+fn read_input<R: Read>(from: &mut R, buffer: &mut [u8]) -> Input
     ensures { IsPrefixLen result.length buffer.new }
 {
     let mut n = 0usize;
     while n < buffer.len() {
-        let more = read_once(&mut buffer[n..]);
+        let more = read_once(from, &mut buffer[n..]);
         if more.failed {
             return Input {
                 length: n,
@@ -50,20 +56,33 @@ fn read_input(buffer: &mut [u8]) -> Input
     }
 }
 
-// The script of a program that takes no arguments. It writes `usage` to standard error if there are some, and `unread` if a read failed.
-pub fn script(buffer: &mut [u8], usage: &[u8], unread: &[u8]) -> Input
+// Whether a program was given arguments: one stands behind its name. It need not fit anywhere.
+fn has_arguments<E: Env>(env: &E) -> bool {
+    !matches!(env.arg(1, &mut []), Err(FillError::NotPresent))
+}
+
+// The script of a program that takes no arguments, of its standard input. It writes `usage` to its standard error if there are some, and
+// `unread` if a read failed.
+pub fn script<E: Env, R: Read, P: Print>(
+    env: &E,
+    from: &mut R,
+    to: &P,
+    buffer: &mut [u8],
+    usage: &[u8],
+    unread: &[u8],
+) -> Input
     ensures { IsPrefixLen result.length buffer.new }
 {
-    if os::arg_count() > 1 {
-        io::write_all(STDERR_FILENO, usage);
+    if has_arguments(env) {
+        let _ = to.write_all(usage);
         return Input {
             length: 0,
             failed: true,
         };
     }
-    let input = read_input(buffer);
+    let input = read_input(from, buffer);
     if input.failed {
-        io::write_all(STDERR_FILENO, unread);
+        let _ = to.write_all(unread);
     }
     input
 }

@@ -685,8 +685,7 @@ pub fn reduce(script: &[u8], out: &mut [u8], number: u32) -> Reduction
 }
 
 // The same for C: the answer's number. The length of what is written is written to `length`, which stays as it was after a refusal.
-#[unsafe(no_mangle)]
-pub extern "C" fn hydra_reduce(script: &[u8], out: &mut [u8], length: &mut u32, number: u32) -> u32
+pub fn hydra_reduce(script: &[u8], out: &mut [u8], length: &mut u32, number: u32) -> u32
     ensures { Returns number script.now out.old length.old result out.new length.new }
 {
     let r = reduce(script, out, number);

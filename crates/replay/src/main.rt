@@ -3,11 +3,14 @@
 #![tactic(auto)]
 
 use desk::View;
-use libc::{STDERR_FILENO, STDOUT_FILENO};
+use std::io::Print;
 
-fn main() {
+fn main(rt: HostRuntime) {
     let mut script = [0u8; 40001];
     let input = input::script(
+        &rt,
+        &mut rt.stdin(),
+        &rt.stderr(),
         &mut script,
         b"replay 2.0.0: takes no arguments and reads a script from standard input (replay < SCRIPT), nothing was run\n",
         b"replay: standard input could not be read, nothing was run\n",
@@ -20,7 +23,9 @@ fn main() {
     let mut out = [0u8; 400000];
     let ran = desk::listings::show(&script[..n], &mut area, &mut out, 1, &[], View::Refusals);
     let k = ran.length;
-    if !io::write_all(STDOUT_FILENO, &out[..k]) {
-        io::write_all(STDERR_FILENO, b"replay: the listing could not be written\n");
+    if rt.stdout().write_all(&out[..k]).is_err() {
+        let _ = rt
+            .stderr()
+            .write_all(b"replay: the listing could not be written\n");
     }
 }

@@ -28,8 +28,7 @@ use tally::Tally;
 use windows::{Window, Windows};
 
 // Nothing is loaded and every place is free. Refused as 15 where the memory is too short.
-#[unsafe(no_mangle)]
-pub extern "C" fn hydra_group_begin(words: &[u32], bytes: &[u8], table: &mut [u32]) -> u32
+pub fn hydra_group_begin(words: &[u32], bytes: &[u8], table: &mut [u32]) -> u32
     ensures value { result ≡ number (begin_answer (memory words.now bytes.now table.old)) }
     ensures table_after { table.new ≡ begun_table (memory words.now bytes.now table.old) }
     ensures by_index { (area : List ℕ) → group_in (memory words.now bytes.now table.new)
@@ -212,8 +211,7 @@ fn load_tallied(
 }
 
 // A load of a number: three words of `rows` for each node, and a day of so many epochs with its windows. The number's tally is set anew.
-#[unsafe(no_mangle)]
-pub extern "C" fn hydra_group_load(
+pub fn hydra_group_load(
     words: &mut [u32],
     bytes: &mut [u8],
     table: &mut [u32],
@@ -405,8 +403,7 @@ fn event_tallied(
 
 // An event of a number: its own number, its node, and what stands behind the node in a script. The number's tally is lent. The report of an
 // accepted close goes to the start of `reports`.
-#[unsafe(no_mangle)]
-pub extern "C" fn hydra_group_event(
+pub fn hydra_group_event(
     words: &mut [u32],
     bytes: &mut [u8],
     table: &mut [u32],
@@ -453,8 +450,7 @@ pub extern "C" fn hydra_group_event(
 }
 
 // What a listing shows of node j of a number, in 90 bytes at the start of an output.
-#[unsafe(no_mangle)]
-pub extern "C" fn hydra_group_node(
+pub fn hydra_group_node(
     words: &[u32],
     bytes: &[u8],
     table: &[u32],

@@ -118,8 +118,7 @@ fn load_tallied(
 }
 
 // A site loaded into memory: three words of `rows` for each node, and a day of so many epochs with its windows. The tally is set anew.
-#[unsafe(no_mangle)]
-pub extern "C" fn hydra_site_load(
+pub fn hydra_site_load(
     words: &mut [u32],
     bytes: &mut [u8],
     nodes: u32,
@@ -245,8 +244,7 @@ fn event_tallied(
 
 // One event: its number, its node, and what stands behind the node in a script. The report of an accepted close goes to the start of
 // `reports`.
-#[unsafe(no_mangle)]
-pub extern "C" fn hydra_site_event(
+pub fn hydra_site_event(
     words: &mut [u32],
     bytes: &mut [u8],
     area: &mut [u8],
@@ -340,8 +338,7 @@ pub fn show(words: &[u32], bytes: &[u8], j: u32, out: &mut [u8]) -> u32
 }
 
 // The same of a site in memory.
-#[unsafe(no_mangle)]
-pub extern "C" fn hydra_site_node(words: &[u32], bytes: &[u8], j: u32, out: &mut [u8]) -> u32
+pub fn hydra_site_node(words: &[u32], bytes: &[u8], j: u32, out: &mut [u8]) -> u32
     ensures value { result ≡ number (showing_of (store words.now bytes.now) j out.old) }
     ensures out_after { out.new ≡ out_node_of (store words.now bytes.now) j out.old }
 {

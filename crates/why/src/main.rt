@@ -8,7 +8,7 @@ ghost use Rattle.std.specs.Prelude.{◌≡◌};
 ghost use Rattle.why.specs.Refused.{one, byte_count, refused_in};
 
 use desk::View;
-use libc::{STDERR_FILENO, STDOUT_FILENO};
+use std::io::{Eprint, Print};
 
 // 1 for the byte c, 0 for any other.
 fn one_of(b: u8, c: u8) -> usize
@@ -48,7 +48,7 @@ fn refused_lines(listing: &[u8]) -> usize
 }
 
 // Says on standard error how many lines of a script were refused, if any.
-fn tell_refused(script: &[u8]) {
+fn tell_refused<P: Eprint>(to: &P, script: &[u8]) {
     let mut area = [0u8; 11520];
     let mut listing = [0u8; 400000];
     let ran = desk::listings::show(script, &mut area, &mut listing, 1, &[], View::Refusals);
@@ -57,14 +57,15 @@ fn tell_refused(script: &[u8]) {
     if refused == 0 {
         return;
     }
-    io::write_all(STDERR_FILENO, b"why: lines refused: ");
-    io::print_decimal(STDERR_FILENO, refused as u64);
-    io::write_all(STDERR_FILENO, b" (replay lists them)\n");
+    let _ = eprintln!(to; "why: lines refused: {refused} (replay lists them)");
 }
 
-fn main() {
+fn main(rt: HostRuntime) {
     let mut script = [0u8; 40001];
     let input = input::script(
+        &rt,
+        &mut rt.stdin(),
+        &rt.stderr(),
         &mut script,
         b"why 2.0.0: takes no arguments and reads a script from standard input (why < SCRIPT), nothing was run\n",
         b"why: standard input could not be read, nothing was run\n",
@@ -79,11 +80,13 @@ fn main() {
         let mut area = [0u8; 11520];
         let ran = desk::listings::show(&script[..n], &mut area, &mut out, 1, &[], View::Reasons(j));
         let k = ran.length;
-        if !io::write_all(STDOUT_FILENO, &out[..k]) {
-            io::write_all(STDERR_FILENO, b"why: the reasons could not be written\n");
+        if rt.stdout().write_all(&out[..k]).is_err() {
+            let _ = rt
+                .stderr()
+                .write_all(b"why: the reasons could not be written\n");
             return;
         }
         j += 1;
     }
-    tell_refused(&script[..n]);
+    tell_refused(&rt, &script[..n]);
 }

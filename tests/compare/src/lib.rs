@@ -10,7 +10,7 @@
 //! The archives and the program have to be there first:
 //!
 //! ```text
-//! rt check replay why && tools/archives
+//! make programs archives
 //! cargo test --release
 //! ```
 
