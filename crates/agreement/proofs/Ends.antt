@@ -30,7 +30,7 @@ use Rattle.site.proofs.Steps.{member-ended, ended-up, ended-down}
 use Rattle.histories.specs.Past.{Past, past_at_end}
 use Rattle.histories.proofs.Tests.{either}
 use Rattle.histories.proofs.Sets.{In, apart, in-self}
-use Rattle.histories.proofs.Members.{member, is_live, asleep, down}
+use Rattle.histories.proofs.Members.{member, is_live_lem, asleep, down}
 use Rattle.histories.proofs.Steady.{Steady, rests, steady-number, steady-last, steady-index, steady-small, steady-met}
 use Rattle.histories.proofs.Sound.{Sits, Sound}
 use Rattle.histories.proofs.Logs.{Upto, end_before}
@@ -51,7 +51,7 @@ end-each i m S E lives waits = either (met? m.up)
     (λ u.
     let st = S.up u in
     each_at (ended-up m u (rests st)) (either (met? (is_waiting m.node.phase)) (waits st) (λ y. record {
-      live = λ _. lives st y (E.live (is_live m u y));
+      live = λ _. lives st y (E.live (is_live_lem m u y));
     })))
     (λ u. each_at (ended-down m u) (each_none m (down m u)))
 

@@ -38,8 +38,12 @@ pub scan : (t : Node → Bool) (l : List Member) → Found t l ⊎ ((i : ℕ) �
 scan t [] = inr (λ i. record { no = λ e. clash false e refl })
 scan t (m ∷ l) = go (met? (is_live m && t m.node)) (scan t l)
   where
+    rest : (is_live m && t m.node) ≡ false → ((i : ℕ) → Miss t (get_or l i nobody)) → (i : ℕ) → Miss t (get_or (m ∷ l) i nobody)
+    rest e r zero = record { no = λ y. sym (ap (λ (b : Bool). b && t m.node) y) ∙ e }
+    rest e r (suc k) = r k
+
     go : ((is_live m && t m.node) ≡ true) ⊎ ((is_live m && t m.node) ≡ false) → Found t l ⊎ ((i : ℕ) → Miss t (get_or l i nobody))
         → Found t (m ∷ l) ⊎ ((i : ℕ) → Miss t (get_or (m ∷ l) i nobody))
     go (inl e) r = inl (record { i = 0; live = and_left _ _ e; yes = and_right (is_live m) _ e })
     go (inr e) (inl r) = inl (found-on r)
-    go (inr e) (inr r) = inr (λ i. elim i [ zero ↦ record { no = λ y. sym (ap (λ (b : Bool). b && t m.node) y) ∙ e } | suc k ↦ r k ])
+    go (inr e) (inr r) = inr (rest e r)

@@ -106,7 +106,7 @@ steps : {f : Config} {past : Past} (w : RunState) (es : List Event) → Holding 
     → Holding f (trace past w es) (run w es).site (run w es).area
 unfolding trace run
 steps w [] h = h
-steps w (e ∷ es) h = steps (after w e) es (step w e h)
+steps {f = f} {past = past} w (e ∷ es) h = steps {f = f} {past = past_after past w e} (after w e) es (step w e h)
 
 -- from loading on
 pub always : (f : Config) (t : Table) → load_answer f t ≡ Done → f.split ≡ 0 → (area : List ℕ) (es : List Event)

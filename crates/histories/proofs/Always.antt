@@ -151,7 +151,7 @@ steps : {f : Config} {past : Past} (w : RunState) (es : List Event) → Kept f p
     → Kept f (trace past w es) (run w es).site (run w es).area
 unfolding trace run
 steps w [] h = h
-steps w (e ∷ es) h = steps (after w e) es (step w e h)
+steps {f = f} {past = past} w (e ∷ es) h = steps {f = f} {past = past_after past w e} (after w e) es (step w e h)
 
 config-loaded : (f : Config) (t : Table) → (loaded_site f t).config ≡ f
 unfolding loaded_site

@@ -40,7 +40,7 @@ use Rattle.site.proofs.Steps.{member-closed, closed-live, closed-other, member-e
 use Rattle.recovery.specs.Calm.{Watch, all_heard}
 use Rattle.histories.proofs.Tests.{either}
 use Rattle.histories.proofs.Sets.{In, in-with, inside-at}
-use Rattle.histories.proofs.Members.{member, live-up, awake, is_live, asleep, down, live_same}
+use Rattle.histories.proofs.Members.{member, live-up, awake, is_live_lem, asleep, down, live_same}
 use Rattle.histories.proofs.Sound.{Sound, no_packet}
 use Rattle.histories.proofs.Steady.{Steady, rests, steady-last, steady-met}
 use Rattle.recovery.proofs.Member as calm
@@ -297,11 +297,11 @@ module _ (f : Config) (L v : ℕ) (S : Schedule) (q : ℕ → ℕ) where
             (λ y. other (with_node m (ended_node m.node)) (asleep (with_node m (ended_node m.node)) (end-asleep m.node y last))
             (λ h. clash (is_waiting m.node.phase) y (awake m (A.all h))))
             (λ y.
-            let h = A.who (is_live m u y) in
+            let h = A.who (is_live_lem m u y) in
             let C : calm.Still f L v S q false (get_or r.heard i 0) r.full i m.node = rw t at (A.still h early) in
             record {
               who = λ _. h;
-              all = λ _. is_live (with_node m (ended_node m.node)) u (ap is_waiting (end-talks m.node y));
+              all = λ _. is_live_lem (with_node m (ended_node m.node)) u (ap is_waiting (end-talks m.node y));
               still = λ _ _. calm.still-round f L v S q small fits enough below asks i m.node (get_or r.heard i 0) r.full h y last C;
               sent = λ _ e. clash false e refl;
             })))
@@ -321,7 +321,7 @@ module _ (f : Config) (L v : ℕ) (S : Schedule) (q : ℕ → ℕ) where
     risen {s} {area} {air} {r} sound t l u Q i h =
         subst (λ (m : Member). (is_live m ≡ true) × (m.node.version ≡ suc v) × (m.node.schedule ≡ calm.fresh f L v S q)
         × (f.min_heard ≤ r.full → m.node.flags ≡ L)) (sym (member-ended s i ∙ ended-up m up (rests st))) (
-          is_live (with_node m (ended_node n)) up (ap is_waiting (end-talks n w)),
+          is_live_lem (with_node m (ended_node n)) up (ap is_waiting (end-talks n w)),
           k.0,
           k.1,
           λ e. calm.flags-again f L v S q small fits

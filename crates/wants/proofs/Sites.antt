@@ -47,7 +47,7 @@ use Rattle.node.specs.Outline.{Outline}
 use Rattle.wants.specs.Outline.{MemberOutline, member_outline, site_outline}
 use Rattle.wants.specs.Wants.{is_want, report_at}
 use Rattle.wants.proofs.Maps.{map-set, map_snoc}
-use Rattle.node.proofs.Outline.{PacketOutline, packet_outline, sent_outline, sends, send_by, take_by, hears, close-by, takes, Fits, end_by}
+use Rattle.node.proofs.Outline.{PacketOutline, packet_outline, sent_outline, sends, send_by as send_by_lem, take_by as take_by_lem, hears, close-by, takes, Fits, end_by_lem}
 use Rattle.node.proofs.Outline.{wants, grounds}
 use Rattle.wants.proofs.Scenes.{scene_of, member_in, packet_at, send_by, hear_by, take_by, crash_by, restart_by, answer_by, put_by}
 use Rattle.wants.proofs.Scenes.{heard_member_by, taken_member_by, close_member_by, end_member_by, next_by, told_for, report_for, report_in}
@@ -109,7 +109,7 @@ module _ (s : Site) (area : List ℕ) (air : List Packet) (h : Sound s area air)
   answer-is (Send j) w l =
       ap (λ (a : Answer). in_area (cond (outside s.config j) NoSuchNode (cond (not s.negotiates) WrongPhase
       (cond (not (is_live (member_at s j))) NotLive (cond (leb top_sent (sent_of s.sent j)) TooManyPackets a)))))
-      (send_by (member_at s j).node)
+      (send_by_lem (member_at s j).node)
       ∙ ap (λ (m : MemberOutline). in_area (send_by (site_outline s) j m)) (member-by s j)
   answer-is (Hear j p) w l = l j p ∙ hear-plain j p
   answer-is Close w l = refl
@@ -117,7 +117,7 @@ module _ (s : Site) (area : List ℕ) (air : List Packet) (h : Sound s area air)
       ap (λ (a : Answer). in_area (cond (outside s.config j || outside s.config i) NoSuchNode (cond s.negotiates WrongPhase
       (cond (not (is_live (member_at s j)) || not (is_live (member_at s i))) NotLive
       (cond (sending (member_at s j).node.phase || not (sending (member_at s i).node.phase)) WrongSender a)))))
-      (take_by (member_at s j).node)
+      (take_by_lem (member_at s j).node)
       ∙ ap₂ (λ (m o : MemberOutline). in_area (take_by (site_outline s) j i m o)) (member-by s j) (member-by s i)
   answer-is End w l = refl
   answer-is (Want j d) w l = never w
@@ -153,7 +153,7 @@ close-member m =
 end-member : (m : Member) → (m.up ≡ true → Fits m.node) → member_outline (end_member m) ≡ end_member_by (member_outline m)
 end-member m h =
     read-choice member_outline m.up (with_node m (end_outcome m.node)) m
-    ∙ at_test m.up _ _ _ (λ u i. record { up = m.up; node = end_by m.node (h u) i })
+    ∙ at_test m.up _ _ _ (λ u i. record { up = m.up; node = end_by_lem m.node (h u) i })
 
 -- a member that is up is within the ranges
 fits : {s : Site} {area : List ℕ} {air : List Packet} → Sound s area air → (i : ℕ) → (get_or s.members i nobody).up ≡ true

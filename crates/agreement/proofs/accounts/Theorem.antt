@@ -52,10 +52,10 @@ step {past} {w} {l} {a} e k = subst (λ (x : RunState). Keeps (past_after past x
 steps : {past : Past} {w : RunState} {l : List Site} {a : Account} (es : List Event) → Keeps past w l a
     → Keeps (trace past w es) (run w es) (l ++ epoch_sites w es) (run_tallied a es)
 unfolding trace run run_tallied epoch_sites
-steps {past} {w} {l} {a} [] k = subst (λ (x : List Site). Keeps past w x a) (sym (append-nil l)) k
-steps {past} {w} {l} {a} (e ∷ es) k =
+steps {past = past} {w} {l} {a} [] k = subst (λ (x : List Site). Keeps past w x a) (sym (append-nil l)) k
+steps {past = past} {w} {l} {a} (e ∷ es) k =
     subst (λ (x : List Site). Keeps (trace (past_after past w e) (after w e) es) (run (after w e) es) x (run_tallied (after_tallied a e) es))
-    (append_assoc l (epoch_site w e) (epoch_sites (after w e) es)) (steps es (step e k))
+    (append_assoc l (epoch_site w e) (epoch_sites (after w e) es)) (steps {past = past_after past w e} es (step e k))
 
 kept : (f : Config) (t : Table) (area : List ℕ) (es : List Event)
     → Keeps (trace (no_past (loaded_site f t)) (begin f t area) es) (run (begin f t area) es)

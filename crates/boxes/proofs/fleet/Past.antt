@@ -38,7 +38,7 @@ use Rattle.boxes.specs.fleet.Past.{BoxDetermination, BoxPast, box_determination,
 use Rattle.boxes.specs.fleet.Claim.{BoxJustified, SameBoxDetermination, BoxesJustified, events}
 use Rattle.boxes.proofs.fleet.Together.{Beside, at, fit}
 use Rattle.boxes.proofs.fleet.Reach.{Reached, answered-alike, reach}
-use Rattle.boxes.proofs.fleet.Results.{is_live, version_of, request-of, live-as}
+use Rattle.boxes.proofs.fleet.Results.{is_live_lem, version_of, request-of, live-as}
 
 -- a box as its member: both live or neither, and if live with the same request and version
 pub record Seen (m : Member) (b : Box) : Type 0 where
@@ -139,7 +139,7 @@ module _ {f : Config} {past : Past} {s : Site} {area : List ℕ} {air : List (Li
       new : Found s.config.nodes y boxes d → Witness (past.log ++ determined_at past s.members) d
       new r =
           let j = r.j in
-          let v = is_live h B j r.from r.live in
+          let v = is_live_lem h B j r.from r.live in
           let u = live-up (member_at s j) v in
           let n = (member_at s j).node in
           let k : decoded (boxes j).area ≡ n = ap decoded ((at h.sound B j r.from).area u)
@@ -217,7 +217,9 @@ pub parallels : {f : Config} {past : Past} (w : RunState) (x : Fleet) (y : BoxPa
     → Parallel (trace past w (events acts)) (box_trace y x acts)
 unfolding trace box_trace
 parallels w x y [] r P = P
-parallels w x y (a ∷ acts) r P = parallels (after w a.event) (fleet_after x a) (box_past_after y x a) acts (reach r a) (parallel-step a r P)
+parallels {f = f} {past = past} w x y (a ∷ acts) r P =
+    parallels {f = f} {past = past_after past w a.event} (after w a.event) (fleet_after x a) (box_past_after y x a) acts (reach r a)
+    (parallel-step a r P)
 
 -- at the beginning
 pub begun-parallel : {f : Config} {s : Site} {area : List ℕ} {x : Fleet} → Reached f (no_past s) (record {

@@ -44,14 +44,15 @@ pub reaches : {f : Config} {past : Past} (w : RunState) (x : Fleet) (acts : List
     → Reached f (trace past w (events acts)) (run w (events acts)) (fleet_run x acts)
 unfolding run trace fleet_run
 reaches w x [] r = r
-reaches w x (a ∷ acts) r = reaches (after w a.event) (fleet_after x a) acts (reach r a)
+reaches {f = f} {past = past} w x (a ∷ acts) r =
+    reaches {f = f} {past = past_after past w a.event} (after w a.event) (fleet_after x a) acts (reach r a)
 
 pub same-answers : {f : Config} {past : Past} (w : RunState) (x : Fleet) (acts : List Act) → Reached f past w x
     → fleet_answers x acts ≡ site_answers w (events acts)
 unfolding fleet_answers site_answers
 same-answers w x [] r = refl
-same-answers w x (a ∷ acts) r = ap₂ (λ (y : Answer) (l : List Answer). y ∷ l) (answered-alike r a.event)
-    (same-answers (after w a.event) (fleet_after x a) acts (reach r a))
+same-answers {f = f} {past = past} w x (a ∷ acts) r = ap₂ (λ (y : Answer) (l : List Answer). y ∷ l) (answered-alike r a.event)
+    (same-answers {f = f} {past = past_after past w a.event} (after w a.event) (fleet_after x a) acts (reach r a))
 
 pub begun : (f : Config) (t : Table) (left : ℕ → List ℕ) → Begins f t left → (area : List ℕ) → area_size ≤ length area
     → Reached f (no_past (loaded_site f t)) (begin f t area) (begun_fleet f t left)

@@ -38,7 +38,7 @@ use Rattle.machine.proofs.combined.Laws.{step-accepts}
 use Rattle.calls.specs.ledger.Lists.{SiteStep, calls_in, past_by, begun_by, Threaded, tally_by, Accounted}
 
 -- an accepted event in lent storage
-pub step_kept : (s : Store) (d : Day) (l : List ℕ) (ws : List Window) (t : Tally) (out : List ℕ) (e : Event)
+pub step_kept_lem : (s : Store) (d : Day) (l : List ℕ) (ws : List Window) (t : Tally) (out : List ℕ) (e : Event)
     → step_accepted s d l ws t out e ≡ true
     → step_kept s d l ws t out e
     ≡ record {
@@ -47,7 +47,7 @@ pub step_kept : (s : Store) (d : Day) (l : List ℕ) (ws : List Window) (t : Tal
       tally = cond (is_end e) (tally_at (timed_after (timed_in s d) l ws e).site t) t;
     }
 unfolding step_answer step_kept kept_after next_kept
-step_kept s d l ws t out e h = go (lent_too_short s l out) refl
+step_kept_lem s d l ws t out e h = go (lent_too_short s l out) refl
   where
     k : Kept
     k = kept_in s d l t

@@ -48,7 +48,7 @@ use Rattle.calls.specs.ledger.Ledger.{SiteMemory, store_of, stands_for, run_stat
 use Rattle.calls.specs.ledger.Ledger.{Called, step_for, steps_of}
 use Rattle.calls.specs.ledger.Ledger.{past_in, Begun}
 use Rattle.calls.specs.ledger.Ledger.{InMemory, Ledger}
-use Rattle.calls.proofs.ledger.Along.{step_kept, Along, along-append, steps-append, along-past, accounted}
+use Rattle.calls.proofs.ledger.Along.{step_kept_lem, Along, along-append, steps-append, along-past, accounted}
 
 -- the site with its day, and its area, of what memory stands for with a tally
 abbrev placed : Kept → TimedState
@@ -86,7 +86,7 @@ module _ (m : SiteMemory) (ws : List Window) (t : Tally) (out : List ℕ) (n : �
       → One (stands_for m) (stands_for l) (cond (eqb n 0) (step_of (Good e) ws (site_in_memory m) (site_in_memory l) t u) [])
   unfolding run_calls Along
   accepted e a q h =
-      let k = q ∙ step_kept s (day_in m.words) m.area ws t out e h in
+      let k = q ∙ step_kept_lem s (day_in m.words) m.area ws t out e h in
       subst (One (stands_for m) (stands_for l)) (sym (hit (eqb n 0) (step_of (Good e) ws (site_in_memory m) (site_in_memory l) t u) []
       (ap (λ (x : ℕ). eqb x 0) a ∙ h)))
       (record {

@@ -68,7 +68,7 @@ use Rattle.sites.specs.one.Calls.{table_from, loading_of, timed_after_load, site
 use Rattle.sites.proofs.one.Days.{timed-day}
 use Rattle.calls.specs.ledger.Lists.{Did, CalledAll}
 use Rattle.calls.specs.ledger.Ledger.{SiteMemory, store_of, Made, parsed, Called, Begun}
-use Rattle.calls.proofs.ledger.Along.{step_kept}
+use Rattle.calls.proofs.ledger.Along.{step_kept_lem}
 
 -- What is written makes no words and no bytes fewer
 
@@ -240,7 +240,7 @@ module _ (s : Store) (d : Day) (l : List ℕ) (ws : List Window) (t : Tally) (ou
       ∙ skip (too_short g) _ _ _ (enough g (omega (arith, x.words, fits.words)) (omega (arith, x.bytes, fits.bytes))) refl
       ∙ ap (λ (y : Site). site_after y l e) begun-site
       ∙ ap (λ (y : Timed). y.site) (sym (done-after (timed_in s d) l ws e (step-accepts s d l ws t out e h)))
-      ∙ ap (λ (y : Kept). y.timed.site) (sym (step_kept s d l ws t out e h))
+      ∙ ap (λ (y : Kept). y.timed.site) (sym (step_kept_lem s d l ws t out e h))
 
 -- Every call can be made
 

@@ -40,7 +40,7 @@ use Rattle.machine.proofs.combined.Laws.{accepts}
 use Rattle.script.specs.declared.Parsed.{Parsed}
 use Rattle.script.specs.declared.Parsed.TheVariants.{Malformed, Good}
 use Rattle.sites.specs.one.Calls.{table_from, node_bytes, shown_size, showing, out_node}
-use Rattle.calls.proofs.ledger.Along.{step_kept}
+use Rattle.calls.proofs.ledger.Along.{step_kept_lem}
 use Rattle.group.specs.Group.{SiteSlot, Empty, Taken, Group, vacant, is_number, site_slot_of}
 use Rattle.group.specs.Calls.{is_crowded}
 use Rattle.group.proofs.Ground.{Ground, Mirror, number_is}
@@ -255,7 +255,7 @@ module _ (m : Memory) (area : List ℕ) (a : ℕ) (x : List ℕ) (G : Ground (gr
         → group_tally_after m area a v e ≡ cond (is_end e) (tally_at (timed_after (timed_of m a) x v.windows e).site v.tally) v.tally
     unfolding group_tally_after
     event-tally q =
-        hit _ _ _ q ∙ ap (λ (k : Kept). k.tally) (step_kept s d own v.windows v.tally v.out e step-done)
+        hit _ _ _ q ∙ ap (λ (k : Kept). k.tally) (step_kept_lem s d own v.windows v.tally v.out e step-done)
         ∙ ap (λ (t : Timed). cond (is_end e) (tally_at t.site v.tally) v.tally) (timed-after (timed_of m a) own x v.windows like e)
 
   -- what a listing shows of a node

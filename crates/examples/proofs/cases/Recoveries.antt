@@ -39,7 +39,7 @@ use Rattle.recovery.specs.Calm.{site_member, live_in, live_set, unwatched, all_h
 use Rattle.examples.specs.cases.Histories.{area, trio, all_at, calm_body, ship, halves}
 use Rattle.examples.specs.cases.Recoveries.{moment, past_then, strict, two_rounds, fore_talk, aft_lost, darkened, three_hold, determined_in}
 use Rattle.examples.specs.cases.Recoveries.{Recoveries}
-use Rattle.examples.proofs.cases.Tests.{each_live, each_live, is_ready, ready_by, is_calm, calm-by}
+use Rattle.examples.proofs.cases.Tests.{each_live, each_live_lem, is_ready, ready_by, is_calm, calm-by}
 
 -- the tests, computed
 again-ready : ((past_then trio (whole calm_body)).start ≡ (moment trio (whole calm_body)).site)
@@ -177,8 +177,8 @@ one-schedule : let s = (reached ship halves area aft_lost).site in (i j : ℕ) �
     → (site_member s i).node.schedule ≡ (site_member s j).node.schedule
 one-schedule i j li lj =
     let s = (reached ship halves area aft_lost).site in
-    first i (ltb-true i 2 (each_live s (λ k. ltb k 2) fore-start.3 i li))
-    ∙ sym (first j (ltb-true j 2 (each_live s (λ k. ltb k 2) fore-start.3 j lj)))
+    first i (ltb-true i 2 (each_live_lem s (λ k. ltb k 2) fore-start.3 i li))
+    ∙ sym (first j (ltb-true j 2 (each_live_lem s (λ k. ltb k 2) fore-start.3 j lj)))
   where
     first : (k : ℕ) → k < 2 → (site_member (reached ship halves area aft_lost).site k).node.schedule
         ≡ (site_member (reached ship halves area aft_lost).site 0).node.schedule
@@ -192,13 +192,13 @@ recoveries =
       ready-again = ready_by (past_then trio (whole calm_body)) (moment trio (whole calm_body)).site 2 again-ready.0
           (inl (split-nodes.0, omega (arith, split-nodes.1, again-ready.2))) again-ready.1 (omega arith);
       calm-again = calm-by _ (moment trio (whole calm_body)) calm_body again-calm;
-      same_asked = record { live = asked.0; requests = λ i l. eqb-true _ _ (each_live (moment trio []).site _ asked.1 i l) };
+      same_asked = record { live = asked.0; requests = λ i l. eqb-true _ _ (each_live_lem (moment trio []).site _ asked.1 i l) };
       strict-loads = strict-start.0;
       strict-ready = ready_by (past_then strict []) (moment strict []).site 1 strict-start.1
           (inl (strict-config.0, omega (arith, strict-config.1, strict-start.3))) strict-start.2 (omega arith);
       strict-calm = calm-by _ (moment strict []) two_rounds strict-epoch.0;
       strict-often = omega (arith, strict-epoch.1);
-      strict-joins = λ j l. each_live (epoch_end (moment strict []) two_rounds) (live_in (moment strict []).site) strict-end j l;
+      strict-joins = λ j l. each_live_lem (epoch_end (moment strict []) two_rounds) (live_in (moment strict []).site) strict-end j l;
       fore-ready = ready_by (past_of ship halves area aft_lost) (reached ship halves area aft_lost).site 2 fore-start.0
           (inr (fore-start.2, one-schedule)) fore-start.1 (omega arith);
       fore-calm = calm-by _ (reached ship halves area aft_lost) fore_talk fore-epoch;

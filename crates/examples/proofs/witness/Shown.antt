@@ -20,7 +20,7 @@ use Rattle.node.specs.declared.Config.{Config}
 use Rattle.site.specs.Model.{Site}
 use Rattle.site.specs.declared.Event.{Event}
 use Rattle.site.specs.declared.Event.TheVariants.{Send, Hear, Close, Take, End, Want, Crash, Restart}
-use Rattle.histories.specs.Past.{Past}
+use Rattle.histories.specs.Past.{Past, past_after}
 use Rattle.histories.proofs.Members.{live-up}
 use Rattle.boxes.specs.fleet.Fleet.{Box, Fleet, Act, live, fleet_after}
 use Rattle.boxes.specs.fleet.Past.{BoxDetermination, BoxPast, box_determination, box_determined_by, boxes_determined, box_noted, box_past_after}
@@ -128,7 +128,7 @@ pub trace-shown : {f : Config} {past : Past} (w : RunState) (x : Fleet) (y : Box
     → map shown_determination (box_trace y x acts).log ≡ map shown_determination y.log ++ site_shown w (events acts)
 unfolding box_trace site_shown
 trace-shown w x y [] r = sym (append-nil _)
-trace-shown w x y (a ∷ acts) r =
-    trace-shown (after w a.event) (fleet_after x a) (box_past_after y x a) acts (reach r a)
+trace-shown {f = f} {past = past} w x y (a ∷ acts) r =
+    trace-shown {f = f} {past = past_after past w a.event} (after w a.event) (fleet_after x a) (box_past_after y x a) acts (reach r a)
     ∙ ap (λ (l : List (List ℕ)). l ++ site_shown (after w a.event) (events acts)) (after-shown r y a)
     ∙ append_assoc (map shown_determination y.log) _ (site_shown (after w a.event) (events acts))
