@@ -17,12 +17,12 @@ returns-in-Malformed c =
     (sym c.in-Malformed.is
     ∙ c.event_at-p.ensures) c.no_event.ensures in record {
       value = whole.0;
-      words_after = whole.1;
-      bytes_after = whole.2;
-      table_after = whole.3;
-      area_after = whole.4;
-      out_after = whole.5;
-      area_after_2 = whole.6;
+      words_after = whole.1.0;
+      bytes_after = whole.1.1.0;
+      table_after = whole.1.1.1.0;
+      area_after = whole.1.1.1.1.0;
+      out_after = whole.1.1.1.1.1.0;
+      area_after_2 = whole.1.1.1.1.1.1;
     }
 
 pub returns-in-Good : goal.returns-in-Good
@@ -32,12 +32,12 @@ returns-in-Good c =
     let v = lent (windows_in a.w.now) a.t a.out.now in
     let whole = good-line m a.area.now a.a v (event_at a.event a.node a.with) _
     (sym c.in-Good.is ∙ c.event_at-p.ensures)
-    c.step.ensures in record {
+    (c.step.ensures.value, (c.step.ensures.words_after, (c.step.ensures.bytes_after, (c.step.ensures.table_after, (c.step.ensures.area_after, (c.step.ensures.out_after, c.step.ensures.area_after_2)))))) in record {
       value = whole.0;
-      words_after = whole.1;
-      bytes_after = whole.2;
-      table_after = whole.3;
-      area_after = whole.4;
-      out_after = whole.5;
-      area_after_2 = whole.6;
+      words_after = whole.1.0;
+      bytes_after = whole.1.1.0;
+      table_after = whole.1.1.1.0;
+      area_after = whole.1.1.1.1.0;
+      out_after = whole.1.1.1.1.1.0;
+      area_after_2 = whole.1.1.1.1.1.1;
     }

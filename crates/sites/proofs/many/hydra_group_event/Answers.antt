@@ -18,8 +18,8 @@ use Rattle.sites.proofs.NoWindows.{no-windows}
 use Rattle.sites.proofs.many.Seen.{told_same, after_same, area_same, report-same, group-same}
 use Rattle.sites.proofs.many.hydra_group_event.Goals as goal
 
-module _ (m : Memory) (l : List ℕ) (a : ℕ) (t : Tally) (out : List ℕ) (p : Parsed) (ws : List Window) {r : Tallied}
-    {words bytes table area reports : List ℕ} where
+module _ (m : Memory) (l : List ℕ) (a : ℕ) (t : Tally) (out : List ℕ) (p : Parsed) (ws : List Window) (r : Tallied)
+    (words bytes table area reports : List ℕ) where
   -- what is told of the event with the windows vs
   abbrev Told : List Window → Type 0
   Told vs =
@@ -67,11 +67,15 @@ module _ (m : Memory) (l : List ℕ) (a : ℕ) (t : Tally) (out : List ℕ) (p :
 pub returns-then-windows-eq0 : goal.returns-then-windows-eq0
 returns-then-windows-eq0 c =
     let a = c.args in
+    let r = c.event_plain-r in
     none_lent (memory a.words.now a.bytes.now a.table.now) a.area.now a.a a.tally.now a.reports.now
-    (event_at a.event a.node a.with) a.windows.now c.if-windows-eq0.true c.event_plain-r.ensures
+    (event_at a.event a.node a.with) a.windows.now r.result r.new.words r.new.bytes r.new.table r.new.area r.new.out
+    c.if-windows-eq0.true r.ensures
 
 pub returns : goal.returns
 returns c =
     let a = c.args in
+    let r = c.event_tallied-r in
     copied-told (memory a.words.now a.bytes.now a.table.now) a.area.now a.a a.tally.now a.reports.now
-    (event_at a.event a.node a.with) a.windows.now c.copied-w.result c.copied-w.ensures c.event_tallied-r.ensures
+    (event_at a.event a.node a.with) a.windows.now r.result r.new.words r.new.bytes r.new.table r.new.area r.new.out
+    c.copied-w.result c.copied-w.ensures r.ensures

@@ -15,8 +15,8 @@ use Rattle.sites.specs.many.Calls.{rows_answer, after_rows, group_rows, tally_lo
 use Rattle.sites.proofs.many.Seen.{rows_same, rows-told-same, group-loaded-same}
 use Rattle.sites.proofs.many.hydra_group_load.Goals as goal
 
-module _ (m : Memory) (a : ℕ) (f : Config) (rows : List ℕ) (D : ℕ) (t : Tally) (ws : List Window) {r : Tallied}
-    {words bytes table : List ℕ} where
+module _ (m : Memory) (a : ℕ) (f : Config) (rows : List ℕ) (D : ℕ) (t : Tally) (ws : List Window) (r : Tallied)
+    (words bytes table : List ℕ) where
   -- what is told of the load with the windows vs
   abbrev Told : List Window → Type 0
   Told vs =
@@ -49,5 +49,7 @@ module _ (m : Memory) (a : ℕ) (f : Config) (rows : List ℕ) (D : ℕ) (t : Ta
 pub returns : goal.returns
 returns c =
     let a = c.args in
+    let r = c.load_tallied-r in
     copied-told (memory a.words.now a.bytes.now a.table.now) a.a (config_from a.nodes a.slots a.rounds a.heard a.split)
-    a.rows.now a.day a.tally.now a.windows.now c.copied-w.result c.copied-w.ensures c.load_tallied-r.ensures
+    a.rows.now a.day a.tally.now a.windows.now r.result r.new.words r.new.bytes r.new.table
+    c.copied-w.result c.copied-w.ensures r.ensures

@@ -15,5 +15,5 @@ returns c =
     let a = c.args in
     let w = with-list (store a.words.now a.bytes.now) a.area.now [] a.t a.out.now
     (event_at a.event a.node a.with) no_words
-    c.event_with.ensures in
+    (c.event_with.ensures.value, (c.event_with.ensures.words_after, (c.event_with.ensures.bytes_after, (c.event_with.ensures.out_after, c.event_with.ensures.tally_after)))) in
     (w.0, w.1.0, w.1.1.0, w.1.1.1.0, w.1.1.1.1)

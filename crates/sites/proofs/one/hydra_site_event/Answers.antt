@@ -2,6 +2,7 @@
 use mathlib.Core.Path.{◌≡◌, sym, ap, ◌∙◌, subst}
 use mathlib.Core.List.{List, []}
 use Prim.Native.Nat.{ℕ}
+use lib.ListN.{length}
 use Rattle.windows.specs.Copies.{copy_of, list_of}
 use Rattle.windows.specs.declared.Window.{Window}
 use Rattle.windows.specs.declared.Windows.{Windows}
@@ -17,8 +18,8 @@ use Rattle.sites.proofs.NoWindows.{no-windows}
 use Rattle.sites.proofs.one.Seen.{tallied-same, after_same, report-same, kept_same}
 use Rattle.sites.proofs.one.hydra_site_event.Goals as goal
 
-module _ (s : Store) (l : List ℕ) (t : Tally) (out : List ℕ) (p : Parsed) (ws : List Window) {r : Tallied}
-    {words bytes area reports : List ℕ} where
+module _ (s : Store) (l : List ℕ) (t : Tally) (out : List ℕ) (p : Parsed) (ws : List Window) (r : Tallied)
+    (words bytes area reports : List ℕ) where
   -- what is told of the event with the windows vs
   abbrev Told : List Window → Type 0
   Told vs =
@@ -59,11 +60,13 @@ module _ (s : Store) (l : List ℕ) (t : Tally) (out : List ℕ) (p : Parsed) (w
 pub returns-then-windows-eq0 : goal.returns-then-windows-eq0
 returns-then-windows-eq0 c =
     let a = c.args in
+    let r = c.event_plain-r in
     none_lent (store a.words.now a.bytes.now) a.area.now a.tally.now a.reports.now (event_at a.event a.node a.with)
-    a.windows.now c.if-windows-eq0.true c.event_plain-r.ensures
+    a.windows.now r.result r.new.words r.new.bytes r.new.area r.new.out c.if-windows-eq0.true r.ensures
 
 pub returns : goal.returns
 returns c =
     let a = c.args in
+    let r = c.event_tallied-r in
     copied-told (store a.words.now a.bytes.now) a.area.now a.tally.now a.reports.now (event_at a.event a.node a.with)
-    a.windows.now c.copied-w.result c.copied-w.ensures c.event_tallied-r.ensures
+    a.windows.now r.result r.new.words r.new.bytes r.new.area r.new.out c.copied-w.result c.copied-w.ensures r.ensures

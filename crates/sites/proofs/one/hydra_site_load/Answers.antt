@@ -15,7 +15,7 @@ use Rattle.sites.specs.one.Calls.{config_from, loading_of, after_load, timed_aft
 use Rattle.sites.proofs.one.Seen.{load-tallied-same, load_same, timed-same}
 use Rattle.sites.proofs.one.hydra_site_load.Goals as goal
 
-module _ (s : Store) (f : Config) (rows : List ℕ) (D : ℕ) (t : Tally) (ws : List Window) {r : Tallied} {words bytes : List ℕ} where
+module _ (s : Store) (f : Config) (rows : List ℕ) (D : ℕ) (t : Tally) (ws : List Window) (r : Tallied) (words bytes : List ℕ) where
   -- what is told of the load with the windows vs
   abbrev Told : List Window → Type 0
   Told vs =
@@ -45,5 +45,6 @@ module _ (s : Store) (f : Config) (rows : List ℕ) (D : ℕ) (t : Tally) (ws : 
 pub returns : goal.returns
 returns c =
     let a = c.args in
+    let r = c.load_tallied-r in
     copied-told (store a.words.now a.bytes.now) (config_from a.nodes a.slots a.rounds a.heard a.split) a.rows.now a.day
-    a.tally.now a.windows.now c.copied-w.result c.copied-w.ensures c.load_tallied-r.ensures
+    a.tally.now a.windows.now r.result r.new.words r.new.bytes c.copied-w.result c.copied-w.ensures r.ensures

@@ -28,7 +28,7 @@ returns-then-is_done c =
     let o = c.load-a in
     let z = used-list a.w c.used-n.result c.used-n.ensures in
     let v : LoadsIs s f a.rows.now a.day (list_of a.w) o.result o.new.words o.new.bytes =
-    subst (λ (ws : List Window). LoadsIs s f a.rows.now a.day ws o.result o.new.words o.new.bytes) z o.ensures in (
+    subst (λ (ws : List Window). LoadsIs s f a.rows.now a.day ws o.result o.new.words o.new.bytes) z (o.ensures.value, (o.ensures.words_after, (o.ensures.bytes_after, o.ensures.bytes_after_2))) in (
       tally-loaded s f a.rows.now a.day (list_of a.w) a.t v.0 c.code.ensures
           (c.first.ensures ∙ sym (hit _ _ _ (sym c.is_done.ensures ∙ c.if-is_done.true))),
       v.1.0,
@@ -45,7 +45,7 @@ returns c =
     let z = used-list a.w c.used-n.result
     c.used-n.ensures in
     let v : LoadsIs s f a.rows.now a.day (list_of a.w) o.result o.new.words o.new.bytes =
-    subst (λ (ws : List Window). LoadsIs s f a.rows.now a.day ws o.result o.new.words o.new.bytes) z o.ensures in (
+    subst (λ (ws : List Window). LoadsIs s f a.rows.now a.day ws o.result o.new.words o.new.bytes) z (o.ensures.value, (o.ensures.words_after, (o.ensures.bytes_after, o.ensures.bytes_after_2))) in (
       tally-loaded s f a.rows.now a.day (list_of a.w) a.t v.0 c.code-2.ensures
           (sym (skip _ _ _ _ (sym c.is_done.ensures ∙ c.if-is_done.false) refl)),
       v.1.0,
