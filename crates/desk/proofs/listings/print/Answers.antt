@@ -80,7 +80,8 @@ returns c =
     let z = opens-put a.v a.day (windows_in a.w.now) a.script.now a.area.now c.if-area-lt-AREA.false
     c.if-script-gt-TOP_SCRIPT.false o.result o.ensures.lines (opened-config a.script.now o.ensures.value) g o.ensures.within w.put in
     let y = opens-area a.v a.day (windows_in a.w.now) a.script.now a.area.now c.if-area-lt-AREA.false
-    c.if-script-gt-TOP_SCRIPT.false o.result o.ensures.lines (opened-config a.script.now o.ensures.value) g o.ensures.within w.area_after in record {
+    c.if-script-gt-TOP_SCRIPT.false o.result o.ensures.lines (opened-config a.script.now o.ensures.value) g o.ensures.within
+    w.area_after in record {
       put = z.0;
       area_after = y;
       within = z.1;

@@ -35,8 +35,8 @@ use Rattle.area.specs.declared.AreaRead.{AreaRead}
 use Rattle.range.specs.Range.{in_range}
 use Rattle.area.proofs.Valid.{size_of, range-of}
 use Rattle.area.proofs.Canon.{lengths, round_trip}
-use Rattle.host.specs.Calls.{and_then, is_node_area, room_answer, unless_refused, output, close_room, ground_size, ground_bytes, closed_answer}
-use Rattle.host.specs.Calls.{close_bytes, closing_of, after_close, out_close, ground_close}
+use Rattle.host.specs.Calls.{and_then, is_node_area, room_answer, unless_refused, output, close_room, ground_size, ground_bytes}
+use Rattle.host.specs.Calls.{closed_answer, close_bytes, closing_of, after_close, out_close, ground_close}
 use Rattle.host.proofs.Answers.{then-stands, no_node, is-node, core_is, refuses, steps, put-out}
 use Rattle.host.proofs.Stepped.{gone, told_is}
 use borrow.Author.Rules.{rules}

@@ -12,7 +12,8 @@ returns c =
     let a = c.args in
     let ws = a.windows.now in
     let d = a.demand.now in
-    let s : c.demand_numbers-r.result ≡ found_by a.nodes a.node a.day (looked_of a.nodes a.day ws a.node a.epoch d) a.epoch d = c.demand_numbers-r.ensures
+    let told = looked_of a.nodes a.day ws a.node a.epoch d in
+    let s : c.demand_numbers-r.result ≡ found_by a.nodes a.node a.day told a.epoch d = c.demand_numbers-r.ensures
     ∙ ap (λ (l : Looked). found_by a.nodes a.node a.day l a.epoch d) c.look-l.ensures in (
       ap (λ (z : Found). z.code) s ∙ answer-seen a.nodes a.node a.day ws a.epoch d,
       ap (λ (z : Found). z.demand) s ∙ demand-seen a.nodes a.node a.day ws a.epoch d,

@@ -18,7 +18,8 @@ long k e f = record { schedule = ap length owners-free; known = e; counters = f;
 pub returns-then-not-step : goal.returns-then-not-step
 returns-then-not-step c =
     let w = c.step.ensures in
-    let whole = sized c.args.area.now c.args.c false (long c.args.c (search rules) (search rules)) w.value (c.if-not-step.true) w.area_after in record {
+    let k = c.args.c in
+    let whole = sized c.args.area.now k false (long k (search rules) (search rules)) w.value c.if-not-step.true w.area_after in record {
       value = whole.0;
       area_after = whole.1;
     }
@@ -26,7 +27,8 @@ returns-then-not-step c =
 pub returns : goal.returns
 returns c =
     let w = c.step.ensures in
-    let whole = sized c.args.area.now c.args.c true (long c.args.c (search rules) (search rules)) w.value (c.if-not-step.false) w.area_after in record {
+    let k = c.args.c in
+    let whole = sized c.args.area.now k true (long k (search rules) (search rules)) w.value c.if-not-step.false w.area_after in record {
       value = whole.0;
       area_after = whole.1;
     }

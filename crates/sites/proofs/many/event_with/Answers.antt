@@ -28,11 +28,12 @@ returns-in-Malformed c =
 pub returns-in-Good : goal.returns-in-Good
 returns-in-Good c =
     let a = c.args in
+    let e = c.step.ensures in
     let m = memory a.words.now a.bytes.now a.table.now in
     let v = lent (windows_in a.w.now) a.t a.out.now in
     let whole = good-line m a.area.now a.a v (event_at a.event a.node a.with) _
     (sym c.in-Good.is ∙ c.event_at-p.ensures)
-    (c.step.ensures.value, (c.step.ensures.words_after, (c.step.ensures.bytes_after, (c.step.ensures.table_after, (c.step.ensures.area_after, (c.step.ensures.out_after, c.step.ensures.area_after_2)))))) in record {
+    (e.value, (e.words_after, (e.bytes_after, (e.table_after, (e.area_after, (e.out_after, e.area_after_2)))))) in record {
       value = whole.0;
       words_after = whole.1.0;
       bytes_after = whole.1.1.0;

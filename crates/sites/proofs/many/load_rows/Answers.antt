@@ -14,11 +14,12 @@ pub returns-then-rows-f : goal.returns-then-rows-f
 returns-then-rows-f c =
     let a = c.args in
     let o = c.load in
+    let e = o.ensures in
     let whole = rows-load (memory a.words.now a.bytes.now a.table.now) a.a a.f a.rows.now a.epochs (windows_in a.w.now)
     (eq-eqb _ _ c.if-rows-f.true)
     (subst (λ (t : Table). LoadIs (memory a.words.now a.bytes.now a.table.now) a.a a.f t a.epochs
     (windows_in a.w.now) o.result o.new.words o.new.bytes o.new.table)
-    c.table_of.ensures (o.ensures.value, (o.ensures.words_after, (o.ensures.bytes_after, (o.ensures.table_after, o.ensures.by_index))))) in record {
+    c.table_of.ensures (e.value, (e.words_after, (e.bytes_after, (e.table_after, e.by_index))))) in record {
       value = whole.0;
       words_after = whole.1.0;
       bytes_after = whole.1.1.0;

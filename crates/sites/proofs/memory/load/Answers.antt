@@ -34,12 +34,13 @@ pub returns-then-not-is_done : goal.returns-then-not-is_done
 returns-then-not-is_done c =
     let a = c.args in
     let d = c.is_done in
+    let e = c.load-r.ensures in
     let whole = load-refused (store a.words.now a.bytes.now) a.f a.rows.now a.length (windows_in a.w.now)
     (sym c.lacks.ensures
     ∙ c.if-lacks.false)
     c.if-rows-f.false
     c.table_of.ensures
-    (c.load-r.ensures.value, (c.load-r.ensures.words_after, (c.load-r.ensures.bytes_after, c.load-r.ensures.bytes_after_2)))
+    (e.value, (e.words_after, (e.bytes_after, e.bytes_after_2)))
     (sym d.ensures ∙ c.if-not-is_done.true) in record {
       value = whole.0;
       words_after = whole.1.0;
@@ -64,10 +65,11 @@ returns c =
     let h = sym c.lacks.ensures
     ∙ c.if-lacks.false in
     let d = c.is_done in
+    let e = c.load-r.ensures in
     let o = c.load-r in
     let whole = load-done s a.f a.rows.now a.length (windows_in a.w.now) h
     c.if-rows-f.false c.table_of.ensures
-    (o.ensures.value, (o.ensures.words_after, (o.ensures.bytes_after, o.ensures.bytes_after_2))) (sym d.ensures ∙ c.if-not-is_done.false)
+    (e.value, (e.words_after, (e.bytes_after, e.bytes_after_2))) (sym d.ensures ∙ c.if-not-is_done.false)
     (omega (arith, o.auto.words, long-words s h)) c.put_day.ensures in record {
       value = whole.0;
       words_after = whole.1.0;

@@ -43,8 +43,10 @@ returns c =
     let h = sym c.lacks.ensures
     ∙ c.if-lacks.false in
     let m = c.step-r in
+    let e = m.ensures in
     let whole = in_memory s a.area.now (windows_in a.w.now) a.t a.out.now h a.e
-    c.day_at-day.ensures (m.ensures.value, (m.ensures.words_after, (m.ensures.bytes_after, (m.ensures.out_after, m.ensures.tally_after)))) (omega (arith, m.auto.words, long-words s h))
+    c.day_at-day.ensures (e.value, (e.words_after, (e.bytes_after, (e.out_after, e.tally_after))))
+    (omega (arith, m.auto.words, long-words s h))
     c.put_day.ensures in record {
       value = whole.0;
       words_after = whole.1.0;

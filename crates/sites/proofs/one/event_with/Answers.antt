@@ -23,8 +23,9 @@ returns-in-Malformed c =
 pub returns-in-Good : goal.returns-in-Good
 returns-in-Good c =
     let a = c.args in
+    let e = c.step.ensures in
     let whole = an-event (store a.words.now a.bytes.now) a.area.now (windows_in a.w.now) a.t a.out.now _
-    (sym c.in-Good.is ∙ c.event_at-p.ensures) (c.step.ensures.value, (c.step.ensures.words_after, (c.step.ensures.bytes_after, (c.step.ensures.out_after, c.step.ensures.tally_after)))) in record {
+    (sym c.in-Good.is ∙ c.event_at-p.ensures) (e.value, (e.words_after, (e.bytes_after, (e.out_after, e.tally_after)))) in record {
       value = whole.0;
       words_after = whole.1.0;
       bytes_after = whole.1.1.0;

@@ -103,10 +103,12 @@ returns-in-Hears c =
 pub returns-in-Neither : goal.returns-in-Neither
 returns-in-Neither c =
     let a = c.args in
+    let o = c.other.ensures in
     let x = one_site (store a.words.now a.bytes.now) a.day a.a a.list.now a.area.now in
     let v = lent (windows_in a.w.now) a.t a.out.now in
     let n = neither-is a.e (sym c.taken_apart-k.ensures ∙ c.in-Neither.is) in
-    let whole = unfull x v a.full a.e n.0 (c.other.ensures.value, (c.other.ensures.words_after, (c.other.ensures.bytes_after, (c.other.ensures.list_after, (c.other.ensures.area_after, (c.other.ensures.out_after, c.other.ensures.bytes_after_2)))))) in record {
+    let whole = unfull x v a.full a.e n.0
+    (o.value, (o.words_after, (o.bytes_after, (o.list_after, (o.area_after, (o.out_after, o.bytes_after_2)))))) in record {
       value = whole.0;
       words_after = whole.1.0;
       bytes_after = whole.1.1.0;
