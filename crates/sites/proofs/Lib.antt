@@ -1,2 +1,2 @@
 -- Sites in lent memory for C.
-pub mod Walks
+pub mod NoWindows

@@ -8,16 +8,16 @@ returns-then-script-out c = no_room _ _ _ c.if-script-out.true
 
 pub reduce_events-requires : goal.reduce_events-requires
 reduce_events-requires c =
-    let o = c.«open».ensures in (
-      record { fits = c.if-script-out.false; is = o.0; lines = o.1.0; from = o.1.1 },
+    let o = c.open-o.ensures in (
+      record { fits = c.if-script-out.false; is = o.value; lines = o.lines; from = o.within },
       sym
           c.is_done.ensures ∙ c.if-is_done.true,
     )
 
 pub reduce_head-requires : goal.reduce_head-requires
 reduce_head-requires c =
-    let o = c.«open».ensures in (
-      record { fits = c.if-script-out.false; is = o.0; lines = o.1.0; from = o.1.1 },
+    let o = c.open-o.ensures in (
+      record { fits = c.if-script-out.false; is = o.value; lines = o.lines; from = o.within },
       sym
           c.is_done.ensures ∙ c.if-is_done.false,
     )

@@ -74,7 +74,7 @@ returns-then-r c =
     c.next_line-l.ensures
     ∙ c.in-Ended.is) in
     let o = c.take_kept-r.ensures in
-    sym (l.inv.4 ∙ gives-hit _ _ _ _ _ w _ _ _ o.value o.bytes_after o.area_after c.if-r.true)
+    sym (l.invariant.4 ∙ gives-hit _ _ _ _ _ w _ _ _ o.value o.bytes_after o.area_after c.if-r.true)
 
 pub overflow_add-at : goal.overflow_add-at
 overflow_add-at c =
@@ -99,5 +99,5 @@ loop-e-preserved c =
       o.auto.words ∙ l.invariant.1,
       o.auto.bytes ∙ l.invariant.2,
       o.auto.area ∙ l.invariant.3,
-      l.invariant.4 ∙ gives-next _ _ _ _ _ w _ _ _ t.0 t.1.0 t.1.1 c.if-r.false,
+      l.invariant.4 ∙ gives-next _ _ _ _ _ w _ _ _ t.value t.bytes_after t.area_after c.if-r.false,
     )

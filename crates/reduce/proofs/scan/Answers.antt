@@ -24,8 +24,11 @@ loop-at-smaller c = omega arith
 pub loop-at-preserved : goal.loop-at-preserved
 loop-at-preserved c =
     let l = c.loop-at in
-    let o = c.attempt_line-r in
-    (omega arith, o.auto.marks ∙ l.invariant.1, scan-next _ _ _ _ _ _ _ _ _ (omega arith) l.invariant.2 o.ensures.value o.ensures.marks_after)
+    let o = c.attempt_line-r in (
+      omega arith,
+      o.auto.marks ∙ l.invariant.1,
+      scan-next _ _ _ _ _ _ _ _ _ (omega arith) l.invariant.2 o.ensures.value o.ensures.marks_after,
+    )
 
 pub shape_of-marks : goal.shape_of-marks
 shape_of-marks c = c.loop-at.invariant.1

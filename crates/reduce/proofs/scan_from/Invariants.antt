@@ -12,10 +12,13 @@ use Rattle.reduce.proofs.scan_from.Given as goal
 
 abbrev pub invariant-loop-lo : goal.invariant-loop-lo
 invariant-loop-lo l =
-    (l.lo ≤ length l.script) × (length l.marks ≡ length l.initial.marks) × (length l.words ≡ length l.initial.words) × (length l.bytes ≡ length l.initial.bytes)
+    (l.lo ≤ length l.script) × (length l.marks ≡ length l.initial.marks) × (length l.words ≡ length l.initial.words)
+    × (length l.bytes ≡ length l.initial.bytes)
     × (length l.area ≡ length l.initial.area)
-    × (gives_from l.number l.script l.marks l.first (run_state_in (store l.initial.words l.initial.bytes) l.initial.day l.initial.area) ≡ true)
-    × Passed l.number l.script l.marks l.first (run_state_in (store l.initial.words l.initial.bytes) l.initial.day l.initial.area) false l.at (run_state_in (store l.words l.bytes) l.day l.area)
+    × (gives_from l.number l.script l.marks l.first
+    (run_state_in (store l.initial.words l.initial.bytes) l.initial.day l.initial.area) ≡ true)
+    × Passed l.number l.script l.marks l.first (run_state_in (store l.initial.words l.initial.bytes) l.initial.day l.initial.area)
+    false l.at (run_state_in (store l.words l.bytes) l.day l.area)
 
 abbrev pub decreases-loop-lo : goal.decreases-loop-lo
 decreases-loop-lo l = length l.script - l.lo

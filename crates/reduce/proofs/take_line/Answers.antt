@@ -37,7 +37,11 @@ returns-in-Good c =
     let t = as-timed s a.day a.area.now [] v c.requires in
     let k : _ ≡ line_day_answer [] x (Good v) =
     o.value ∙ ap (λ (ws : List Window). day_answer s a.day a.area.now ws v) no_words ∙ t.0 in record {
-      value = (λ i. record { gave = (c.is_refusal-in-Good.ensures ∙ ap (λ (u : DayAnswer). is_refusal a.number u.answer) k) i; day = (k i).day })
+      value = (λ i. record {
+        gave = (c.is_refusal-in-Good.ensures
+            ∙ ap (λ (u : DayAnswer). is_refusal a.number u.answer) k) i;
+        day = (k i).day;
+      })
           ∙ sym (ap (trial_step_by true a.number x) e);
       bytes_after = o.bytes_after_2 ∙ ap (λ (ws : List Window). timed_site s a.day a.area.now ws v) no_words ∙ t.1.0
           ∙ sym (ap (λ (p : Parsed). (line_after [] x p).timed.site) e);

@@ -19,7 +19,9 @@ few : (n k : ℕ) (o : List ℕ) → n ≡ min k 80 → length (take n o) ≤ 80
 few n k o e = omega (arith, e, length-take n o)
 
 pub slice_bounds-row-end-2 : goal.slice_bounds-row-end-2
-slice_bounds-row-end-2 c = sym (length-take-le _ _ (array-share-prefix-owners c))
+slice_bounds-row-end-2 c =
+    let h : c.slots-top.result ≤ length c.show_owners.new.owners = search rules in
+    sym (length-take-le _ _ h)
 
 pub row-n-requires : goal.row-n-requires
 row-n-requires c =
@@ -32,7 +34,9 @@ slice_bounds-b-end c =
     c.slots-top.ensures)) c.row-n.ensures
 
 pub slice_bounds-put_bytes-end : goal.slice_bounds-put_bytes-end
-slice_bounds-put_bytes-end c = sym (length-take-le _ _ (array-share-prefix-b c))
+slice_bounds-put_bytes-end c =
+    sym (length-take-le _ _ (ends-within (row-long _ _ _ (few _ _ c.show_owners.new.owners
+    c.slots-top.ensures)) c.row-n.ensures))
 
 -- The row written apart is the text of what the member shows, which is the member's row (`row_is`).
 pub returns : goal.returns

@@ -12,7 +12,8 @@ use Rattle.desk.proofs.listing.put_rows.Given as goal
 abbrev pub invariant-loop-i : goal.invariant-loop-i
 invariant-loop-i l =
     (l.i ≤ l.n) × (length l.out ≡ length l.initial.out)
-    × (with_rows (l.n - l.i) l.i (store l.words l.bytes) l.k (page l.out l.at) ≡ with_rows l.n 0 (store l.words l.bytes) l.k (page l.initial.out l.to))
+    × (with_rows (l.n - l.i) l.i (store l.words l.bytes) l.k (page l.out l.at)
+    ≡ with_rows l.n 0 (store l.words l.bytes) l.k (page l.initial.out l.to))
 
 abbrev pub decreases-loop-i : goal.decreases-loop-i
 decreases-loop-i l = l.n - l.i

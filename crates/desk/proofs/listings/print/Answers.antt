@@ -51,9 +51,9 @@ put_refused-requires-then-not-is_done c =
 pub returns-then-not-is_done : goal.returns-then-not-is_done
 returns-then-not-is_done c =
     let a = c.args in
-    let o = c7.«open» in
+    let o = c.open-o in
     let q = refused-is a.v a.day (windows_in a.w.now) a.script.now a.area.now c.if-area-lt-AREA.false
-    c.if-script-gt-TOP_SCRIPT.false o.result o.ensures.1.0 (opened-config a.script.now o.ensures.0)
+    c.if-script-gt-TOP_SCRIPT.false o.result o.ensures.lines (opened-config a.script.now o.ensures.value)
     (sym c.is_done.ensures ∙ c.if-not-is_done.true) in
     let z = refusal_is a.v a.day (windows_in a.w.now) a.script.now a.area.now o.result.config.split o.result.line
     o.result.answer q.0 c.put_refused-then-not-is_done.ensures in record {
@@ -65,22 +65,23 @@ returns-then-not-is_done c =
 pub print_run-requires : goal.print_run-requires
 print_run-requires c =
     let a = c.args in
-    let o = c5.«open» in
+    let o = c.open-o in
     opens-fits a.v a.day (windows_in a.w.now) a.script.now a.area.now c.if-area-lt-AREA.false
-    c.if-script-gt-TOP_SCRIPT.false o.result o.ensures.1.0 (opened-config a.script.now o.ensures.0)
-    (sym c.is_done.ensures ∙ c.if-not-is_done.false) o.ensures.1.1 c.requires
+    c.if-script-gt-TOP_SCRIPT.false o.result o.ensures.lines (opened-config a.script.now o.ensures.value)
+    (sym c.is_done.ensures ∙ c.if-not-is_done.false) o.ensures.within c.requires
 
 pub returns : goal.returns
 returns c =
     let a = c.args in
-    let o = c10.«open» in
+    let o = c.open-o in
     let w = c.print_run.ensures in
     let g = sym c.is_done.ensures
     ∙ c.if-not-is_done.false in
     let z = opens-put a.v a.day (windows_in a.w.now) a.script.now a.area.now c.if-area-lt-AREA.false
-    c.if-script-gt-TOP_SCRIPT.false o.result o.ensures.1.0 (opened-config a.script.now o.ensures.0) g o.ensures.1.1 w.put in
+    c.if-script-gt-TOP_SCRIPT.false o.result o.ensures.lines (opened-config a.script.now o.ensures.value) g o.ensures.within w.put in
     let y = opens-area a.v a.day (windows_in a.w.now) a.script.now a.area.now c.if-area-lt-AREA.false
-    c.if-script-gt-TOP_SCRIPT.false o.result o.ensures.1.0 (opened-config a.script.now o.ensures.0) g o.ensures.1.1 w.area_after in record {
+    c.if-script-gt-TOP_SCRIPT.false o.result o.ensures.lines (opened-config a.script.now o.ensures.value) g o.ensures.within
+    w.area_after in record {
       put = z.0;
       area_after = y;
       within = z.1;

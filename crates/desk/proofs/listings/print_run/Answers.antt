@@ -54,11 +54,11 @@ put_rest-requires c =
     let r = loaded _ _ a.o f.loads _ o.ensures.value (sym c.is_done.ensures
     ∙ c.if-not-is_done.false) (store o.new.words o.new.bytes) o.ensures.bytes_after_2
     in
-    let k = c.run-end.auto.1.1.1 in (
+    let k = c.run-end.auto in (
       f.nodes,
       f.slots,
-      omega (arith, k.0, o.auto.words, zeros-long.0),
-      omega (arith, k.1.0, o.auto.bytes, zeros-long.1),
+      omega (arith, k.words, o.auto.words, zeros-long.0),
+      omega (arith, k.bytes, o.auto.bytes, zeros-long.1),
       rest-room a.v _ _ _ _ _ _ r.0 r.1 f c.put_head-to.ensures c.run-end.ensures,
     )
 

@@ -126,8 +126,8 @@ loop-out-preserved c =
       o.auto.words ∙ l.invariant.2,
       o.auto.bytes ∙ l.invariant.3,
       o.auto.area ∙ l.invariant.4,
-      sym (next-run _ _ _ q (windows_in a.w.now) _ e a.v s l.day l.area _ _ _ t.0 t.1.0 t.1.1) ∙ l.invariant.5,
-      step _ _ (leftover (next-lines _ _ _ q (windows_in a.w.now) _ e a.v s l.day l.area _ _ _ t.0 t.1.0 t.1.1 long
+      sym (next-run _ _ _ q (windows_in a.w.now) _ e a.v s l.day l.area _ _ _ t.value t.bytes_after t.area_after) ∙ l.invariant.5,
+      step _ _ (leftover (next-lines _ _ _ q (windows_in a.w.now) _ e a.v s l.day l.area _ _ _ t.value t.bytes_after t.area_after long
           l.n) l.invariant.6) c.put_line-pos.ensures,
-      next-list _ _ _ q (windows_in a.w.now) _ e a.v s l.day l.area _ _ _ t.0 t.1.0 t.1.1 l.invariant.7,
+      next-list _ _ _ q (windows_in a.w.now) _ e a.v s l.day l.area _ _ _ t.value t.bytes_after t.area_after l.invariant.7,
     )

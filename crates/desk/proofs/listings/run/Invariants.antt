@@ -20,10 +20,14 @@ use Rattle.desk.proofs.listings.run.Given as goal
 -- to be written.
 abbrev pub invariant-loop-out : goal.invariant-loop-out
 invariant-loop-out l =
-    (l.at ≤ length l.script) × (l.n ≤ l.first + l.at) × (length l.words ≡ length l.initial.words) × (length l.bytes ≡ length l.initial.bytes) × (length l.area ≡ length l.initial.area)
+    (l.at ≤ length l.script) × (l.n ≤ l.first + l.at) × (length l.words ≡ length l.initial.words)
+    × (length l.bytes ≡ length l.initial.bytes) × (length l.area ≡ length l.initial.area)
     × (run_by (windows_in l.w) (run_state_in (store l.words l.bytes) l.day l.area) (events_in (split 10 (drop l.at l.script)))
-    ≡ run_by (windows_in l.w) (run_state_in (store l.initial.words l.initial.bytes) l.initial.day l.initial.area) (events_in (split 10 (drop l.from l.script))))
-    × Left l.initial.out l.to (lines_text l.v (windows_in l.w) (run_state_in (store l.initial.words l.initial.bytes) l.initial.day l.initial.area) l.first (split 10 (drop l.from l.script))) l.out l.pos
+    ≡ run_by (windows_in l.w) (run_state_in (store l.initial.words l.initial.bytes) l.initial.day l.initial.area)
+    (events_in (split 10 (drop l.from l.script))))
+    × Left l.initial.out l.to (lines_text l.v (windows_in l.w)
+    (run_state_in (store l.initial.words l.initial.bytes) l.initial.day l.initial.area) l.first (split 10 (drop l.from l.script)))
+    l.out l.pos
     (lines_text l.v (windows_in l.w) (run_state_in (store l.words l.bytes) l.day l.area) l.n (split 10 (drop l.at l.script)))
     × (list_ok (site_in (store l.words l.bytes)).config.nodes l.day.length (windows_in l.w) ≡ true)
 

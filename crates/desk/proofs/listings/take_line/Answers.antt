@@ -31,9 +31,10 @@ returns-in-Good c =
     let x = run_state_in s a.day a.area.now in
     let e = c.in-Good.is in
     let v = c.in-Good.e in
+    let w = c.step_tested-step.ensures in
     let m : Long s = (c.requires.0, c.requires.1) in
     let o = by-list s a.day a.area.now (windows_in a.w.now) v (keeps s a.day (windows_in a.w.now) v m c.requires.2)
-    c.step_tested-step.ensures in
+    (w.value, (w.words_after, (w.bytes_after, w.area_after))) in
     let t = as-timed s a.day a.area.now (windows_in a.w.now) v m in record {
       value = (λ i. record { step = (o.0 ∙ t.0) i; report = c.event_report-report.ensures i })
           ∙ sym (ap (line_taken a.v (windows_in a.w.now) s a.day a.area.now) e);

@@ -27,6 +27,37 @@ use Rattle.host.proofs.calls.hydra_slots.Goals as goal
 abbrev numbers : NodeSlots → List ℕ
 numbers w = w.low ∷ w.high ∷ w.count ∷ []
 
+-- the call on the area of a node, with this output
+module _ (a out : List ℕ) {o : AreaRead} (e : o ≡ area_read a) (f : not o.ok ≡ false) where
+  abbrev n : Node
+  n = decoded a
+
+  abbrev x : Node → Answer
+  x m = output_answer m out
+
+  core-so : o.core ≡ core_of n
+  core-so = core_is a (λ (m : Node). output_answer m out) e f
+
+  answer-so : {y : Answer} → y ≡ in_negotiation o.core.phase → y ≡ send_answer n
+  answer-so g = g ∙ ap (λ (c : Core). in_negotiation c.phase) core-so ∙ sym (send-phase n)
+
+  -- the answer, and what the output holds then
+  abbrev All : ℕ → List ℕ → Type 0
+  All r l = (r ≡ number (and_then (is_node_area a) (x n))) × (l ≡ output (and_then (is_node_area a) (x n)) (own_slots n) out)
+
+  other-phase : (y : Answer) → y ≡ send_answer n → is_done y ≡ false → All (number y) out
+  other-phase y g d =
+      refuses a (λ (m : Node). output_answer m out) e f y
+      (g ∙ sym (then-stands (send_answer n) (room_answer slots_size out) (sym (ap is_done g) ∙ d))) d _ _
+
+  -- what is read of the node's own row is what it owns
+  own-so : {w : NodeSlots} {j : ℕ} → j ≡ o.core.setup.node → w ≡ own_read a at_schedule j → numbers w ≡ own_slots n
+  unfolding own_slots
+  own-so g h =
+      let v = is-node a (λ (m : Node). output_answer m out) e f in
+      let k = numbered a v in
+      ap numbers (h ∙ ap (own_read a at_schedule) (g ∙ ap (λ (c : Core). c.setup.node) core-so) ∙ own_is a v n.setup.node k.0 k.1)
+
 pub returns-then-not-o : goal.returns-then-not-o
 unfolding slots_answer out_slots
 returns-then-not-o c =

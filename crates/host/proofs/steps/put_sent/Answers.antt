@@ -26,6 +26,20 @@ use Rattle.host.proofs.Answers.{in-room}
 use borrow.Author.Rules.{rules}
 use Rattle.host.proofs.steps.put_sent.Goals as goal
 
+module _ (n : Node) (out : List ℕ) where
+  -- a node that doesn't send writes nothing
+  silent : sending n.phase ≡ false → out ≡ output (close_room n out) (close_bytes n) out
+  silent f = sym (ap (λ (t : Bool). output (cond t (room_answer schedule_size out) Done) (cond t (schedule_bytes (sent_by n)) []) out) f
+      ∙ written_none out 0)
+
+  -- one that sends writes version and schedule where there is room
+  sends : {m : List ℕ} {q : Versioned} → sending n.phase ≡ true → q ≡ sent_by n
+      → m ≡ cond (leb schedule_size (length out)) (written out 0 (schedule_bytes q)) out → m ≡ output (close_room n out) (close_bytes n) out
+  sends f k w =
+      let t = leb schedule_size (length out) in
+      w ∙ ap (λ (v : Versioned). cond t (written out 0 (schedule_bytes v)) out) k ∙ in-room t (schedule_bytes (sent_by n)) out
+      ∙ sym (ap (λ (s : Bool). output (cond s (room_answer schedule_size out) Done) (cond s (schedule_bytes (sent_by n)) []) out) f)
+
 -- the node that is told, by the area that holds its schedule
 abbrev shown : Core → List ℕ → Node
 shown c l = node_of c (pair (schedule_of (owners_to (masks_in l at_schedule) c.setup.config.nodes)) free)

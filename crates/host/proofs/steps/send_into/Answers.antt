@@ -19,6 +19,23 @@ use Rattle.host.proofs.Answers.{then_next, then-stands, refusal, in-room}
 use borrow.Author.Rules.{rules}
 use Rattle.host.proofs.steps.send_into.Goals as goal
 
+-- a node's packet is refused as the node refuses it, or written where there is room
+module _ (n : Node) (l : List ℕ) {y : Answer} (e : y ≡ send_answer n) where
+  refused-send : is_done y ≡ false → (y ≡ sent_answer n l) × (l ≡ output (sent_answer n l) (packet_bytes (packet_of n)) l)
+  refused-send f =
+      let z : sent_answer n l ≡ y = then-stands (send_answer n) (room_answer packet_size l) (sym (ap is_done e) ∙ f) ∙ sym e in
+      (sym z, (refusal _ _ z f _ _).1)
+
+  sends : {u v : Bool} {m : List ℕ} {q : Packet} → is_done y ≡ true → q ≡ packet_of n → u ≡ has_part l 0
+      → m ≡ cond (has_part l 0) (placed l 0 q) l → u ≡ v
+      → (cond v Done NoRoom ≡ sent_answer n l) × (m ≡ output (sent_answer n l) (packet_bytes (packet_of n)) l)
+  sends f g h w k =
+      let z = sym (then_next (send_answer n) (room_answer packet_size l) (sym (ap is_done e) ∙ f)) in (
+        ap (λ (t : Bool). cond t Done NoRoom) (sym k ∙ h) ∙ z,
+        w ∙ ap (λ (x : Packet). cond (has_part l 0) (placed l 0 x) l) g ∙ in-room (has_part l 0) (packet_bytes (packet_of n)) l
+            ∙ ap (λ (x : Answer). output x (packet_bytes (packet_of n)) l) z,
+      )
+
 pub returns-then-not-is_done : goal.returns-then-not-is_done
 returns-then-not-is_done c =
     let whole = refused-send (bare c.args.c) c.args.out.now

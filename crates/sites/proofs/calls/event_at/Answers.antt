@@ -60,25 +60,25 @@ returns c =
     ≡ x = λ k. one_site (cut-store m a.i k)
     (c.day_at-day.ensures k) a.a (places_in a.table.now) a.area.now in
     let F = c.is_full-full.ensures in
-    let told = o.0 ∙ ap₂ (λ (y : OneSite) (f : Bool). step_result_by y f v a.e) X F in
-    let st : store t.last.0 t.last.1.0 ≡ lent_store_by x (common_full m a.e) v a.e =
-    (λ k. record { words = o.1.0 k; bytes = o.1.1.0 k }) ∙ ap₂ (λ (y : OneSite) (f : Bool). lent_store_by y f v a.e) X F in
+    let told = o.value ∙ ap₂ (λ (y : OneSite) (f : Bool). step_result_by y f v a.e) X F in
+    let st : store t.new.words t.new.bytes ≡ lent_store_by x (common_full m a.e) v a.e =
+    (λ k. record { words = o.words_after k; bytes = o.bytes_after k }) ∙ ap₂ (λ (y : OneSite) (f : Bool). lent_store_by y f v a.e) X F in
     let w = ap (λ (y : Store). y.words) st in
     let b = ap (λ (y : Store). y.bytes) st in
     let S = lent_store_by x (common_full m a.e) v a.e in
-    let lw : length S.words ≡ words_size = ap length (sym w) ∙ t.kept.0 ∙ cut-words m a.i q.0 q.3 in
-    let lb : length S.bytes ≡ bytes_size = ap length (sym b) ∙ t.kept.1.0 ∙ cut-bytes m a.i q.1 q.3 in
-    let p = o.1.1.1.0 ∙ ap₂ (λ (y : OneSite) (f : Bool). places_by y f v a.e) X F in
-    let lp : length (places_by x (common_full m a.e) v a.e) ≡ top_places = ap length (sym p) ∙ t.kept.1.1.0
+    let lw : length S.words ≡ words_size = ap length (sym w) ∙ t.auto.words ∙ cut-words m a.i q.0 q.3 in
+    let lb : length S.bytes ≡ bytes_size = ap length (sym b) ∙ t.auto.bytes ∙ cut-bytes m a.i q.1 q.3 in
+    let p = o.list_after ∙ ap₂ (λ (y : OneSite) (f : Bool). places_by y f v a.e) X F in
+    let lp : length (places_by x (common_full m a.e) v a.e) ≡ top_places = ap length (sym p) ∙ t.auto.list
     ∙ length-take-le 256 a.table.now (omega (arith, q.2)) in
-    let site : site_in S ≡ site_by x (common_full m a.e) v a.e = ap site_in (sym st) ∙ o.1.1.1.1.1.1
+    let site : site_in S ≡ site_by x (common_full m a.e) v a.e = ap site_in (sym st) ∙ o.bytes_after_2
     ∙ ap₂ (λ (y : OneSite) (f : Bool). site_by y f v a.e) X F in record {
       value = ap (λ (y : StepResult). record { code = y.code; tally = y.tally }) told;
       words_after = words_back m a.i S lw w;
       bytes_after = bytes_back m a.i S lb b;
       table_after = c.set_site_slot.ensures
           ∙ table-back a.table.now a.i lp p (ap (λ (y : StepResult). y.day) told);
-      area_after = o.1.1.1.1.0 ∙ ap₂ (λ (y : OneSite) (f : Bool). area_by y f v a.e) X F;
-      out_after = o.1.1.1.1.1.0 ∙ ap₂ (λ (y : OneSite) (f : Bool). report_by y f v a.e) X F;
+      area_after = o.area_after ∙ ap₂ (λ (y : OneSite) (f : Bool). area_by y f v a.e) X F;
+      out_after = o.out_after ∙ ap₂ (λ (y : OneSite) (f : Bool). report_by y f v a.e) X F;
       sized = ((lw, lb), lp, site);
     }

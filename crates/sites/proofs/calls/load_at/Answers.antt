@@ -34,15 +34,15 @@ returns-then-not-is_done c =
     let e = cut-store m a.i in
     let l = c.load-r in
     let o = l.ensures in
-    let v : store l.new.words l.new.bytes ≡ S = (λ k. record { words = o.1.0 k; bytes = o.1.1.0 k })
+    let v : store l.new.words l.new.bytes ≡ S = (λ k. record { words = o.words_after k; bytes = o.bytes_after k })
     ∙ ap (λ (x : Store). timed_loaded_store x a.f a.t a.epochs ws) e in
     let w = ap (λ (x : Store). x.words) v in
     let b = ap (λ (x : Store). x.bytes) v in
     let lw : length S.words ≡ words_size = ap length (sym w) ∙ l.auto.words ∙ cut-words m a.i q.0 q.3 in
     let lb : length S.bytes ≡ bytes_size = ap length (sym b) ∙ l.auto.bytes ∙ cut-bytes m a.i q.1 q.3 in
-    let site : site_in S ≡ timed_loaded_site s a.f a.t a.epochs ws = ap site_in (sym v) ∙ o.1.1.1
+    let site : site_in S ≡ timed_loaded_site s a.f a.t a.epochs ws = ap site_in (sym v) ∙ o.bytes_after_2
     ∙ ap (λ (x : Store). timed_loaded_site x a.f a.t a.epochs ws) e in
-    let answer : l.result.answer ≡ stored_load_answer s a.f a.t a.epochs ws = ap (λ (x : DayAnswer). x.answer) o.0
+    let answer : l.result.answer ≡ stored_load_answer s a.f a.t a.epochs ws = ap (λ (x : DayAnswer). x.answer) o.value
     ∙ ap (λ (x : Store). stored_load_answer x a.f a.t a.epochs ws) e in
     let d : is_done (stored_load_answer s a.f a.t a.epochs ws) ≡ false = ap is_done (sym answer)
     ∙ sym c.is_done.ensures ∙ c.if-not-is_done.true in record {
@@ -78,15 +78,15 @@ returns c =
     let e = cut-store m a.i in
     let l = c.load-r in
     let o = l.ensures in
-    let v : store l.new.words l.new.bytes ≡ S = (λ k. record { words = o.1.0 k; bytes = o.1.1.0 k })
+    let v : store l.new.words l.new.bytes ≡ S = (λ k. record { words = o.words_after k; bytes = o.bytes_after k })
     ∙ ap (λ (x : Store). timed_loaded_store x a.f a.t a.epochs ws) e in
     let w = ap (λ (x : Store). x.words) v in
     let b = ap (λ (x : Store). x.bytes) v in
     let lw : length S.words ≡ words_size = ap length (sym w) ∙ l.auto.words ∙ cut-words m a.i q.0 q.3 in
     let lb : length S.bytes ≡ bytes_size = ap length (sym b) ∙ l.auto.bytes ∙ cut-bytes m a.i q.1 q.3 in
-    let site : site_in S ≡ timed_loaded_site s a.f a.t a.epochs ws = ap site_in (sym v) ∙ o.1.1.1
+    let site : site_in S ≡ timed_loaded_site s a.f a.t a.epochs ws = ap site_in (sym v) ∙ o.bytes_after_2
     ∙ ap (λ (x : Store). timed_loaded_site x a.f a.t a.epochs ws) e in
-    let answer : l.result.answer ≡ stored_load_answer s a.f a.t a.epochs ws = ap (λ (x : DayAnswer). x.answer) o.0
+    let answer : l.result.answer ≡ stored_load_answer s a.f a.t a.epochs ws = ap (λ (x : DayAnswer). x.answer) o.value
     ∙ ap (λ (x : Store). stored_load_answer x a.f a.t a.epochs ws) e in
     let d : is_done (stored_load_answer s a.f a.t a.epochs ws) ≡ true = ap is_done (sym answer)
     ∙ sym c.is_done.ensures

@@ -18,10 +18,10 @@ returns-then-not-is_number c =
     (sym c.is_number.ensures ∙ c.if-not-is_number.true)
     c.code.ensures in record {
       value = whole.0;
-      words_after = whole.1;
-      bytes_after = whole.2;
-      table_after = whole.3;
-      by_index = whole.4;
+      words_after = whole.1.0;
+      bytes_after = whole.1.1.0;
+      table_after = whole.1.1.1.0;
+      by_index = whole.1.1.1.1;
     }
 
 pub returns-then-too_few : goal.returns-then-too_few
@@ -32,10 +32,10 @@ returns-then-too_few c =
     ∙ c.if-not-is_number.false) (sym c.too_few.ensures ∙ c.if-too_few.true)
     c.code-then-too_few.ensures in record {
       value = whole.0;
-      words_after = whole.1;
-      bytes_after = whole.2;
-      table_after = whole.3;
-      by_index = whole.4;
+      words_after = whole.1.0;
+      bytes_after = whole.1.1.0;
+      table_after = whole.1.1.1.0;
+      by_index = whole.1.1.1.1;
     }
 
 pub overflow_sub-a : goal.overflow_sub-a
@@ -64,8 +64,8 @@ returns c =
     ∙ c.if-too_few.false) o.value o.words_after o.bytes_after
     o.table_after z.0 z.1 in record {
       value = whole.0;
-      words_after = whole.1;
-      bytes_after = whole.2;
-      table_after = whole.3;
-      by_index = whole.4;
+      words_after = whole.1.0;
+      bytes_after = whole.1.1.0;
+      table_after = whole.1.1.1.0;
+      by_index = whole.1.1.1.1;
     }

@@ -14,16 +14,17 @@ pub returns-then-rows-f : goal.returns-then-rows-f
 returns-then-rows-f c =
     let a = c.args in
     let o = c.load in
+    let e = o.ensures in
     let whole = rows-load (memory a.words.now a.bytes.now a.table.now) a.a a.f a.rows.now a.epochs (windows_in a.w.now)
     (eq-eqb _ _ c.if-rows-f.true)
     (subst (λ (t : Table). LoadIs (memory a.words.now a.bytes.now a.table.now) a.a a.f t a.epochs
     (windows_in a.w.now) o.result o.new.words o.new.bytes o.new.table)
-    c.table_of.ensures o.ensures) in record {
+    c.table_of.ensures (e.value, (e.words_after, (e.bytes_after, (e.table_after, e.by_index))))) in record {
       value = whole.0;
-      words_after = whole.1;
-      bytes_after = whole.2;
-      table_after = whole.3;
-      by_index = whole.4;
+      words_after = whole.1.0;
+      bytes_after = whole.1.1.0;
+      table_after = whole.1.1.1.0;
+      by_index = whole.1.1.1.1;
     }
 
 pub returns-then-not-is_number : goal.returns-then-not-is_number
@@ -34,10 +35,10 @@ returns-then-not-is_number c =
     (sym c.is_number.ensures ∙ c.if-not-is_number.true)
     c.code.ensures in record {
       value = whole.0;
-      words_after = whole.1;
-      bytes_after = whole.2;
-      table_after = whole.3;
-      by_index = whole.4;
+      words_after = whole.1.0;
+      bytes_after = whole.1.1.0;
+      table_after = whole.1.1.1.0;
+      by_index = whole.1.1.1.1;
     }
 
 pub returns-then-too_few : goal.returns-then-too_few
@@ -50,10 +51,10 @@ returns-then-too_few c =
     ∙ c.if-not-is_number.false) (sym c.too_few.ensures ∙ c.if-too_few.true)
     c.code-then-too_few.ensures in record {
       value = whole.0;
-      words_after = whole.1;
-      bytes_after = whole.2;
-      table_after = whole.3;
-      by_index = whole.4;
+      words_after = whole.1.0;
+      bytes_after = whole.1.1.0;
+      table_after = whole.1.1.1.0;
+      by_index = whole.1.1.1.1;
     }
 
 pub returns : goal.returns
@@ -66,8 +67,8 @@ returns c =
     ∙ c.if-not-is_number.false) (sym c.too_few.ensures ∙ c.if-too_few.false)
     c.code-2.ensures in record {
       value = whole.0;
-      words_after = whole.1;
-      bytes_after = whole.2;
-      table_after = whole.3;
-      by_index = whole.4;
+      words_after = whole.1.0;
+      bytes_after = whole.1.1.0;
+      table_after = whole.1.1.1.0;
+      by_index = whole.1.1.1.1;
     }

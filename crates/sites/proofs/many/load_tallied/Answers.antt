@@ -28,9 +28,10 @@ returns-then-code-eq0 c =
     let m = memory a.words.now a.bytes.now a.table.now in
     let f = config_from a.nodes a.slots a.rounds a.heard a.split in
     let o = c.load_rows-code in
+    let e = o.ensures in
     let z = used-list a.w c.used-n.result c.used-n.ensures in
     let v = subst (λ (ws : List Window). RowsIs m a.a f a.rows.now a.day ws o.result o.new.words o.new.bytes
-    o.new.table) z o.ensures in (
+    o.new.table) z (e.value, (e.words_after, (e.bytes_after, (e.table_after, e.by_index)))) in (
       rows_told m a.a f a.rows.now a.day (list_of a.w) a.t v.0
           (c.first.ensures ∙ sym (hit _ _ _ (eq-eqb _ _ c.if-code-eq0.true))),
       v.1.0,
@@ -45,9 +46,10 @@ returns c =
     let m = memory a.words.now a.bytes.now a.table.now in
     let f = config_from a.nodes a.slots a.rounds a.heard a.split in
     let o = c.load_rows-code in
+    let e = o.ensures in
     let z = used-list a.w c.used-n.result c.used-n.ensures in
     let v = subst (λ (ws : List Window). RowsIs m a.a f a.rows.now a.day ws o.result o.new.words o.new.bytes
-    o.new.table) z o.ensures in (
+    o.new.table) z (e.value, (e.words_after, (e.bytes_after, (e.table_after, e.by_index)))) in (
       rows_told m a.a f a.rows.now a.day (list_of a.w) a.t v.0 (sym (skip _ _ _ _ (ne_eqb _ _ c.if-code-eq0.false) refl)),
       v.1.0,
       v.1.1.0,

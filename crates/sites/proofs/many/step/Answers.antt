@@ -20,12 +20,12 @@ returns-then-not-is_done c =
     ∙ c.if-not-is_done.true in
     let whole = not-loaded m a.area.now a.a v a.e h (c.code.ensures ∙ ap number c.loaded_answer-site_slot.ensures) in record {
       value = whole.0;
-      words_after = whole.1;
-      bytes_after = whole.2;
-      table_after = whole.3;
-      area_after = whole.4;
-      out_after = whole.5;
-      area_after_2 = whole.6;
+      words_after = whole.1.0;
+      bytes_after = whole.1.1.0;
+      table_after = whole.1.1.1.0;
+      area_after = whole.1.1.1.1.0;
+      out_after = whole.1.1.1.1.1.0;
+      area_after_2 = whole.1.1.1.1.1.1;
     }
 
 pub overflow_sub-a : goal.overflow_sub-a
@@ -63,10 +63,10 @@ returns c =
     let whole = loaded-event m a.area.now a.a v a.e h z.0 z.1 z.2 o.value o.words_after o.bytes_after o.table_after o.area_after
     o.out_after in record {
       value = whole.0;
-      words_after = whole.1;
-      bytes_after = whole.2;
-      table_after = whole.3;
-      area_after = whole.4;
-      out_after = whole.5;
-      area_after_2 = whole.6;
+      words_after = whole.1.0;
+      bytes_after = whole.1.1.0;
+      table_after = whole.1.1.1.0;
+      area_after = whole.1.1.1.1.0;
+      out_after = whole.1.1.1.1.1.0;
+      area_after_2 = whole.1.1.1.1.1.1;
     }

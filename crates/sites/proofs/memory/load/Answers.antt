@@ -14,9 +14,9 @@ returns-then-lacks c =
     let whole = lacks-load (store a.words.now a.bytes.now) a.f a.rows.now a.length (windows_in a.w.now)
     (sym c.lacks.ensures ∙ c.if-lacks.true) in record {
       value = whole.0;
-      words_after = whole.1;
-      bytes_after = whole.2;
-      bytes_after_2 = whole.3;
+      words_after = whole.1.0;
+      bytes_after = whole.1.1.0;
+      bytes_after_2 = whole.1.1.1;
     }
 
 pub returns-then-rows-f : goal.returns-then-rows-f
@@ -25,26 +25,27 @@ returns-then-rows-f c =
     let whole = bad-rows (store a.words.now a.bytes.now) a.f a.rows.now a.length (windows_in a.w.now)
     (sym c.lacks.ensures ∙ c.if-lacks.false) c.if-rows-f.true in record {
       value = whole.0;
-      words_after = whole.1;
-      bytes_after = whole.2;
-      bytes_after_2 = whole.3;
+      words_after = whole.1.0;
+      bytes_after = whole.1.1.0;
+      bytes_after_2 = whole.1.1.1;
     }
 
 pub returns-then-not-is_done : goal.returns-then-not-is_done
 returns-then-not-is_done c =
     let a = c.args in
     let d = c.is_done in
+    let e = c.load-r.ensures in
     let whole = load-refused (store a.words.now a.bytes.now) a.f a.rows.now a.length (windows_in a.w.now)
     (sym c.lacks.ensures
     ∙ c.if-lacks.false)
     c.if-rows-f.false
     c.table_of.ensures
-    c.load-r.ensures
+    (e.value, (e.words_after, (e.bytes_after, e.bytes_after_2)))
     (sym d.ensures ∙ c.if-not-is_done.true) in record {
       value = whole.0;
-      words_after = whole.1;
-      bytes_after = whole.2;
-      bytes_after_2 = whole.3;
+      words_after = whole.1.0;
+      bytes_after = whole.1.1.0;
+      bytes_after_2 = whole.1.1.1;
     }
 
 pub put_day-requires : goal.put_day-requires
@@ -64,13 +65,14 @@ returns c =
     let h = sym c.lacks.ensures
     ∙ c.if-lacks.false in
     let d = c.is_done in
+    let e = c.load-r.ensures in
     let o = c.load-r in
     let whole = load-done s a.f a.rows.now a.length (windows_in a.w.now) h
     c.if-rows-f.false c.table_of.ensures
-    o.ensures (sym d.ensures ∙ c.if-not-is_done.false)
+    (e.value, (e.words_after, (e.bytes_after, e.bytes_after_2))) (sym d.ensures ∙ c.if-not-is_done.false)
     (omega (arith, o.auto.words, long-words s h)) c.put_day.ensures in record {
       value = whole.0;
-      words_after = whole.1;
-      bytes_after = whole.2;
-      bytes_after_2 = whole.3;
+      words_after = whole.1.0;
+      bytes_after = whole.1.1.0;
+      bytes_after_2 = whole.1.1.1;
     }

@@ -14,10 +14,10 @@ returns-then-lacks c =
     let whole = lacking (store a.words.now a.bytes.now) a.area.now (windows_in a.w.now) a.t a.out.now (Good a.e)
     (sym c.lacks.ensures ∙ c.if-lacks.true) c.code.ensures in record {
       value = whole.0;
-      words_after = whole.1;
-      bytes_after = whole.2;
-      out_after = whole.3;
-      tally_after = whole.4;
+      words_after = whole.1.0;
+      bytes_after = whole.1.1.0;
+      out_after = whole.1.1.1.0;
+      tally_after = whole.1.1.1.1;
     }
 
 pub day_at-day-requires : goal.day_at-day-requires
@@ -43,12 +43,14 @@ returns c =
     let h = sym c.lacks.ensures
     ∙ c.if-lacks.false in
     let m = c.step-r in
+    let e = m.ensures in
     let whole = in_memory s a.area.now (windows_in a.w.now) a.t a.out.now h a.e
-    c.day_at-day.ensures m.ensures (omega (arith, m.auto.words, long-words s h))
+    c.day_at-day.ensures (e.value, (e.words_after, (e.bytes_after, (e.out_after, e.tally_after))))
+    (omega (arith, m.auto.words, long-words s h))
     c.put_day.ensures in record {
       value = whole.0;
-      words_after = whole.1;
-      bytes_after = whole.2;
-      out_after = whole.3;
-      tally_after = whole.4;
+      words_after = whole.1.0;
+      bytes_after = whole.1.1.0;
+      out_after = whole.1.1.1.0;
+      tally_after = whole.1.1.1.1;
     }

@@ -19,8 +19,9 @@ slice_bounds-event_with-end c = sym
 pub returns : goal.returns
 returns c =
     let a = c.args in
+    let e = c.event_with.ensures in
     let z = used-list a.w c.used-n.result c.used-n.ensures in
     let w = with-list (store a.words.now a.bytes.now) a.area.now (list_of a.w) a.t a.out.now
-    (event_at a.event a.node a.with) z c.event_with.ensures
+    (event_at a.event a.node a.with) z (e.value, (e.words_after, (e.bytes_after, (e.out_after, e.tally_after))))
     in
     (w.0, w.1.0, w.1.1.0, w.1.1.1.0, w.1.1.1.1)

@@ -14,20 +14,21 @@ returns-in-Malformed c =
     (sym c.in-Malformed.is
     ∙ c.event_at-p.ensures) c.no_event.ensures in record {
       value = whole.0;
-      words_after = whole.1;
-      bytes_after = whole.2;
-      out_after = whole.3;
-      tally_after = whole.4;
+      words_after = whole.1.0;
+      bytes_after = whole.1.1.0;
+      out_after = whole.1.1.1.0;
+      tally_after = whole.1.1.1.1;
     }
 
 pub returns-in-Good : goal.returns-in-Good
 returns-in-Good c =
     let a = c.args in
+    let e = c.step.ensures in
     let whole = an-event (store a.words.now a.bytes.now) a.area.now (windows_in a.w.now) a.t a.out.now _
-    (sym c.in-Good.is ∙ c.event_at-p.ensures) c.step.ensures in record {
+    (sym c.in-Good.is ∙ c.event_at-p.ensures) (e.value, (e.words_after, (e.bytes_after, (e.out_after, e.tally_after)))) in record {
       value = whole.0;
-      words_after = whole.1;
-      bytes_after = whole.2;
-      out_after = whole.3;
-      tally_after = whole.4;
+      words_after = whole.1.0;
+      bytes_after = whole.1.1.0;
+      out_after = whole.1.1.1.0;
+      tally_after = whole.1.1.1.1;
     }

@@ -26,9 +26,16 @@ returns-then-is_done c =
     let s = store a.words.now a.bytes.now in
     let f = config_from a.nodes a.slots a.rounds a.heard a.split in
     let o = c.load-a in
+    let e = o.ensures in
     let z = used-list a.w c.used-n.result c.used-n.ensures in
     let v : LoadsIs s f a.rows.now a.day (list_of a.w) o.result o.new.words o.new.bytes =
-    subst (λ (ws : List Window). LoadsIs s f a.rows.now a.day ws o.result o.new.words o.new.bytes) z o.ensures in (
+    subst (λ (ws : List Window). LoadsIs s f a.rows.now a.day ws o.result o.new.words o.new.bytes) z (
+      e.value,
+      (
+        e.words_after,
+        (e.bytes_after, e.bytes_after_2),
+      ),
+    ) in (
       tally-loaded s f a.rows.now a.day (list_of a.w) a.t v.0 c.code.ensures
           (c.first.ensures ∙ sym (hit _ _ _ (sym c.is_done.ensures ∙ c.if-is_done.true))),
       v.1.0,
@@ -42,10 +49,17 @@ returns c =
     let s = store a.words.now a.bytes.now in
     let f = config_from a.nodes a.slots a.rounds a.heard a.split in
     let o = c.load-a in
+    let e = o.ensures in
     let z = used-list a.w c.used-n.result
     c.used-n.ensures in
     let v : LoadsIs s f a.rows.now a.day (list_of a.w) o.result o.new.words o.new.bytes =
-    subst (λ (ws : List Window). LoadsIs s f a.rows.now a.day ws o.result o.new.words o.new.bytes) z o.ensures in (
+    subst (λ (ws : List Window). LoadsIs s f a.rows.now a.day ws o.result o.new.words o.new.bytes) z (
+      e.value,
+      (
+        e.words_after,
+        (e.bytes_after, e.bytes_after_2),
+      ),
+    ) in (
       tally-loaded s f a.rows.now a.day (list_of a.w) a.t v.0 c.code-2.ensures
           (sym (skip _ _ _ _ (sym c.is_done.ensures ∙ c.if-is_done.false) refl)),
       v.1.0,

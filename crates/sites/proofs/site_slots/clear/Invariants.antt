@@ -9,4 +9,6 @@ use Rattle.sites.proofs.many.Lists.{tab-zeros}
 use Rattle.sites.proofs.site_slots.clear.Given as goal
 
 abbrev pub invariant-loop-i : goal.invariant-loop-i
-invariant-loop-i l = (l.i ≤ l.n) × (l.n ≡ length l.initial.table) × (length l.table ≡ length l.initial.table) × (l.table ≡ tab l.i (λ k. 0) ++ drop l.i l.initial.table)
+invariant-loop-i l =
+    (l.i ≤ l.n) × (l.n ≡ length l.initial.table) × (length l.table ≡ length l.initial.table)
+    × (l.table ≡ tab l.i (λ k. 0) ++ drop l.i l.initial.table)

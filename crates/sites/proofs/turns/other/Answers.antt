@@ -20,14 +20,14 @@ returns c =
     let v = lent (windows_in a.w.now) a.t a.out.now in
     let o = c.step-r.ensures
     in
-    let whole = other-turn x v p.0 false a.e p.1 p.2 o.0 o.1.0 o.1.1.0 o.1.1.1.0 o.1.1.1.1
-    (both c.is_close.ensures (ap (λ (z : StepResult). eqb z.code 0) o.0))
+    let whole = other-turn x v p.0 false a.e p.1 p.2 o.value o.words_after o.bytes_after o.out_after o.tally_after
+    (both c.is_close.ensures (ap (λ (z : StepResult). eqb z.code 0) o.value))
     c.free_where.ensures in record {
       value = whole.0;
-      words_after = whole.1;
-      bytes_after = whole.2;
-      list_after = whole.3;
-      area_after = whole.4;
-      out_after = whole.5;
-      bytes_after_2 = whole.6;
+      words_after = whole.1.0;
+      bytes_after = whole.1.1.0;
+      list_after = whole.1.1.1.0;
+      area_after = whole.1.1.1.1.0;
+      out_after = whole.1.1.1.1.1.0;
+      bytes_after_2 = whole.1.1.1.1.1.1;
     }

@@ -34,9 +34,9 @@ returns-then-not-is_done c =
     ∙ c.if-not-is_done.true in
     let whole = send-refused s a.o a.full a.j a.a a.list.now a.area.now d (c.code.ensures ∙ ap number f) in record {
       value = whole.0;
-      bytes_after = whole.1;
-      list_after = whole.2;
-      area_after = whole.3;
+      bytes_after = whole.1.0;
+      list_after = whole.1.1.0;
+      area_after = whole.1.1.1;
     }
 
 pub returns-then-n-full : goal.returns-then-n-full
@@ -55,9 +55,9 @@ returns-then-n-full c =
     (ap (λ (n : ℕ). leb own_share n && a.full) (sym c.packets-n.ensures.value) ∙ c.if-n-full.true)
     c.code-then-n-full.ensures in record {
       value = whole.0;
-      bytes_after = whole.1;
-      list_after = whole.2;
-      area_after = whole.3;
+      bytes_after = whole.1.0;
+      list_after = whole.1.1.0;
+      area_after = whole.1.1.1;
     }
 
 pub returns : goal.returns
@@ -84,7 +84,7 @@ returns c =
     (i.area_after ∙ area-sent s a.area.now _ a.j done
     ∙ ap (λ (k : ℕ). stored a.area.now k (packet_of (member_at (site_in s) a.j).node)) at) in record {
       value = whole.0;
-      bytes_after = whole.1;
-      list_after = whole.2;
-      area_after = whole.3;
+      bytes_after = whole.1.0;
+      list_after = whole.1.1.0;
+      area_after = whole.1.1.1;
     }
