@@ -1,6 +1,6 @@
 -- Specification, 9 Refusals: what is answered to each event, by its order there.
 -- Assumes nothing.
-use Rattle.std.specs.Prelude.{Bool, true, false, not, cond, ◌&&◌, ◌||◌, List, ℕ, ltb, leb, length}
+use Rattle.std.specs.Prelude.{Bool, not, cond, ◌&&◌, ◌||◌, List, ℕ, ltb, leb, length}
 use Rattle.allotment.specs.Allotment.{top_request}
 use Rattle.node.specs.Answers.{is_done}
 use Rattle.node.specs.Figures.{flags_ok, sending}

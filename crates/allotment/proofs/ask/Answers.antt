@@ -1,6 +1,5 @@
 use mathlib.Core.Bool.{Bool, ◌&&◌}
 use mathlib.Core.Path.{refl, sym, ap, ◌∙◌}
-use borrow.Author.Rules.{rules}
 use lib.Dec.{ltb, leb}
 use lib.ListN.{get_or}
 use Rattle.words.proofs.Tests.{hit, skip}

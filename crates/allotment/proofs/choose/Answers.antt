@@ -1,12 +1,9 @@
-use mathlib.Core.Logic.{◌⊎◌, inl}
-use mathlib.Core.Path.{◌≡◌, refl}
+use mathlib.Core.Logic.{inl}
+use mathlib.Core.Path.{refl}
 use Prim.Native.Nat.{◌≤◌, ◌-◌, ◌+◌}
 use native.Mathlib.Omega.{arith}
-use borrow.Author.Rules.{rules}
-use lib.ListN.{get_or}
 use Rattle.lists.proofs.Laws.{iter-none, iter-more, iter_end}
-use Rattle.allotment.specs.Allotment.{holding}
-use Rattle.allotment.proofs.Turns.{best_of, best-more}
+use Rattle.allotment.proofs.Turns.{best-more}
 use Rattle.allotment.proofs.choose.Goals as goal
 
 pub loop-i-init : goal.loop-i-init

@@ -1,12 +1,9 @@
-use mathlib.Core.Logic.{◌⊎◌, inl}
-use mathlib.Core.Path.{◌≡◌, refl}
-use Prim.Native.Nat.{◌≤◌, ◌-◌, ◌+◌}
-use native.Mathlib.Omega.{arith}
-use borrow.Author.Rules.{rules}
+use mathlib.Core.Logic.{◌⊎◌}
+use mathlib.Core.Path.{◌≡◌}
+use Prim.Native.Nat.{◌≤◌, ◌-◌}
 use lib.ListN.{get_or}
-use Rattle.lists.proofs.Laws.{iter-none, iter-more, iter_end}
 use Rattle.allotment.specs.Allotment.{holding}
-use Rattle.allotment.proofs.Turns.{best_of, best-more}
+use Rattle.allotment.proofs.Turns.{best_of}
 use Rattle.allotment.proofs.choose.Given as goal
 
 abbrev pub invariant-loop-i : goal.invariant-loop-i

@@ -1,13 +1,7 @@
-use mathlib.Core.List.{List}
-use mathlib.Core.Path.{◌≡◌, ap, ◌∙◌}
-use Prim.Native.Nat.{ℕ, ◌≤◌, ◌-◌}
-use native.Mathlib.Omega.{arith}
-use borrow.Author.Rules.{rules}
-use lib.ListN.{replicate}
+use mathlib.Core.Path.{◌≡◌}
+use Prim.Native.Nat.{◌≤◌, ◌-◌}
 use Rattle.lists.specs.All.{iter}
-use Rattle.lists.proofs.Laws.{iter-none, iter-more, iter_end}
-use Rattle.allotment.specs.Allotment.{top_request, deal_round, dealt}
-use Rattle.allotment.proofs.Turns.{rounds-end}
+use Rattle.allotment.specs.Allotment.{top_request, deal_round}
 use Rattle.allotment.proofs.deal_all.Given as goal
 
 abbrev pub invariant-loop : goal.invariant-loop

@@ -1,13 +1,11 @@
-use mathlib.Core.Path.{◌≡◌, ◌∙◌}
-use Prim.Native.Nat.{◌≤◌, ◌<◌, ◌-◌}
+use mathlib.Core.Path.{◌∙◌}
+use Prim.Native.Nat.{◌-◌}
 use native.Mathlib.Omega.{arith}
 use borrow.Author.Tests.{ltb-true}
 use lib.Dec.{ltb}
-use Rattle.lists.specs.All.{iter}
 use Rattle.words.proofs.Tests.{and_left, and_right}
 use Rattle.lists.proofs.Laws.{iter-none, iter-more, iter_end}
 use Rattle.allotment.specs.declared.Deal.{Deal}
-use Rattle.allotment.specs.Allotment.{deal_one}
 use Rattle.allotment.proofs.Turns.{deal-turn, round-end}
 use Rattle.allotment.proofs.deal_round.Goals as goal
 

@@ -1,14 +1,8 @@
-use mathlib.Core.Path.{◌≡◌, ◌∙◌}
-use Prim.Native.Nat.{◌≤◌, ◌<◌, ◌-◌}
-use native.Mathlib.Omega.{arith}
-use borrow.Author.Tests.{ltb-true}
-use lib.Dec.{ltb}
+use mathlib.Core.Path.{◌≡◌}
+use Prim.Native.Nat.{◌≤◌, ◌-◌}
 use Rattle.lists.specs.All.{iter}
-use Rattle.words.proofs.Tests.{and_left, and_right}
-use Rattle.lists.proofs.Laws.{iter-none, iter-more, iter_end}
 use Rattle.allotment.specs.declared.Deal.{Deal}
 use Rattle.allotment.specs.Allotment.{deal_one}
-use Rattle.allotment.proofs.Turns.{deal-turn, round-end}
 use Rattle.allotment.proofs.deal_round.Given as goal
 
 abbrev pub invariant-loop-i : goal.invariant-loop-i

@@ -1,12 +1,11 @@
 -- `total`: what was added, and what is still to come, are the sum of the list.
 use mathlib.Core.Path.{◌≡◌}
-use Prim.Native.Nat.{ℕ, ◌≤◌, ◌<◌, ◌-◌, ◌+◌, ◌*◌}
+use Prim.Native.Nat.{◌<◌, ◌-◌}
 use native.Mathlib.Omega.{arith}
-use lib.ListN.{length, get_or, drop}
+use lib.ListN.{length, get_or}
 use borrow.Author.Rules.{rules}
 use mir.Val.{Fits}
 use mir.Syntax.{w8}
-use Rattle.allotment.specs.Allotment.{total}
 use Rattle.allotment.proofs.Laws.{total-more, total-end}
 use Rattle.allotment.proofs.total.Goals as goal
 use Rattle.allotment.proofs.total.Goals.{In-loop-i, Start}

@@ -1,12 +1,10 @@
-use mathlib.Core.Path.{◌≡◌, refl, sym, ◌∙◌}
-use Prim.Native.Nat.{ℕ, ◌≤◌, ◌<◌, ◌-◌}
+use mathlib.Core.Path.{refl, sym, ◌∙◌}
+use Prim.Native.Nat.{◌-◌}
 use native.Mathlib.Omega.{arith}
-use borrow.Author.Rules.{rules}
 use borrow.Author.Tests.{lt-ltb, le-ltb}
-use lib.ListN.{get_or}
 use Rattle.words.proofs.Tests.{hit, skip}
 use Rattle.allotment.specs.Allotment.{holding}
-use Rattle.allotment.proofs.Turns.{At, best-all, turn-chosen, turn-next}
+use Rattle.allotment.proofs.Turns.{best-all, turn-chosen, turn-next}
 use Rattle.allotment.proofs.turn.Goals as goal
 
 pub returns-then-slot-ge80 : goal.returns-then-slot-ge80

@@ -2,7 +2,6 @@
 use Rattle.wire.specs.Phases.{phase_of}
 use lib.Dec.{eqb}
 use mathlib.Core.Path.{ap, ◌∙◌}
-use borrow.Author.Rules.{rules}
 use Rattle.area.proofs.decode.Goals as goal
 
 pub returns : goal.returns

@@ -4,7 +4,6 @@ use Rattle.node.specs.Core.{bare}
 use Rattle.node.specs.declared.Core.{Core}
 use Rattle.range.specs.Range.{in_range}
 use mathlib.Core.Bool.{Bool, cond, ◌&&◌}
-use borrow.Author.Tests.{not-true, not-false}
 use lib.Dec.{ltb}
 use Rattle.words.proofs.Tests.{both}
 use Rattle.masks.specs.Bytes.{fit_read}
@@ -12,7 +11,6 @@ use Rattle.area.specs.Area.{at_schedule, at_determined}
 use Rattle.area.specs.Steps.{area_fits}
 use mathlib.Core.Path.{◌≡◌, sym, ap, ◌∙◌}
 use Prim.Native.Nat.{ℕ, ◌-◌}
-use borrow.Author.Rules.{rules}
 use Rattle.area.proofs.fits.Goals as goal
 
 -- a node that is not within the ranges

@@ -1,9 +1,6 @@
-use mathlib.Core.List.{◌++◌}
-use lib.ListN.{get_or, drop, replicate}
-use Rattle.lists.specs.All.{tab}
 use Rattle.lists.proofs.Laws.{fill_none, fill_more, fill_end}
-use mathlib.Core.Path.{◌≡◌, refl}
-use Prim.Native.Nat.{◌≤◌, ◌-◌, ◌+◌}
+use mathlib.Core.Path.{refl}
+use Prim.Native.Nat.{◌-◌}
 use native.Mathlib.Omega.{arith}
 use Rattle.area.proofs.list_at.Goals as goal
 

@@ -1,6 +1,5 @@
 use mathlib.Core.Bool.{false}
 use mathlib.Core.Path.{ap, ◌∙◌}
-use borrow.Author.Rules.{rules}
 use Rattle.node.specs.Begin.{waiting}
 use Rattle.node.specs.Core.{core_of}
 use Rattle.node.specs.declared.Config.{Config}

@@ -15,7 +15,6 @@ use Rattle.area.proofs.Canon.{fits-valid}
 use mathlib.Core.Path.{◌≡◌, refl, sym, ap, ◌∙◌}
 use Prim.Native.Nat.{ℕ, ◌-◌}
 use native.Mathlib.Omega.{arith}
-use borrow.Author.Rules.{rules}
 use Rattle.area.proofs.read.Goals as goal
 
 pub returns-then-s-ne-AREA : goal.returns-then-s-ne-AREA

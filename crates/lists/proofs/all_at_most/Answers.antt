@@ -1,11 +1,9 @@
 use Rattle.lists.proofs.Laws.{all_none, all_more, all_end}
-use Rattle.lists.specs.All.{at_most, all_below}
-use lib.ListN.{length, get_or}
+use Rattle.lists.specs.All.{at_most}
 use lib.Dec.{leb}
-use mathlib.Core.Path.{◌≡◌, refl, ap}
-use Prim.Native.Nat.{ℕ, ◌≤◌, ◌-◌}
+use mathlib.Core.Path.{refl, ap}
+use Prim.Native.Nat.{ℕ, ◌-◌}
 use native.Mathlib.Omega.{arith}
-use borrow.Author.Rules.{rules}
 use Rattle.lists.proofs.all_at_most.Goals as goal
 
 pub loop-i-init : goal.loop-i-init

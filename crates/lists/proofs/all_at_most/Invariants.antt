@@ -1,11 +1,8 @@
-use Rattle.lists.proofs.Laws.{all_none, all_more, all_end}
-use Rattle.lists.specs.All.{at_most, all_below}
+use Rattle.lists.specs.All.{all_below}
 use lib.ListN.{length, get_or}
 use lib.Dec.{leb}
-use mathlib.Core.Path.{◌≡◌, refl, ap}
-use Prim.Native.Nat.{ℕ, ◌≤◌, ◌-◌}
-use native.Mathlib.Omega.{arith}
-use borrow.Author.Rules.{rules}
+use mathlib.Core.Path.{◌≡◌}
+use Prim.Native.Nat.{◌≤◌, ◌-◌}
 use Rattle.lists.proofs.all_at_most.Given as goal
 
 abbrev pub invariant-loop-i : goal.invariant-loop-i

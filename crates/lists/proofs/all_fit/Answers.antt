@@ -6,7 +6,6 @@ use lib.Seq.{length-take-le}
 use mathlib.Core.Path.{sym, ap, ◌∙◌}
 use Prim.Native.Nat.{ℕ}
 use native.Mathlib.Omega.{arith}
-use borrow.Author.Rules.{rules}
 use Rattle.lists.proofs.all_fit.Goals as goal
 
 pub slice_bounds-all_at_most-end : goal.slice_bounds-all_at_most-end

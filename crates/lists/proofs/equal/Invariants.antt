@@ -1,11 +1,8 @@
-use Rattle.lists.proofs.Laws.{all_none, all_more, all_end, same-lengths, same-all}
 use Rattle.lists.specs.All.{all_below}
 use lib.ListN.{length, get_or}
 use lib.Dec.{eqb}
-use mathlib.Core.Path.{◌≡◌, refl, sym, ◌∙◌}
+use mathlib.Core.Path.{◌≡◌}
 use Prim.Native.Nat.{◌≤◌, ◌-◌}
-use native.Mathlib.Omega.{arith}
-use borrow.Author.Rules.{rules}
 use Rattle.lists.proofs.equal.Given as goal
 
 abbrev pub invariant-loop-i : goal.invariant-loop-i

@@ -3,7 +3,6 @@ use native.Mathlib.Nat.{add-zero}
 use native.Mathlib.Numerals.{add-one}
 use lib.ListN.{length-set, get_or, length, take}
 use lib.Seq.{take-suc, take_all, length-take-le}
-use Rattle.lists.specs.Bytes.{Put}
 use Rattle.lists.proofs.Chain.{one, none, then, tried, not-tried}
 use mathlib.Core.Path.{◌≡◌, refl}
 use Prim.Native.Nat.{◌≤◌, ◌<◌, ◌-◌, ◌+◌}

@@ -1,12 +1,7 @@
-use native.Mathlib.Nat.{add-zero}
-use native.Mathlib.Numerals.{add-one}
-use lib.ListN.{length-set, get_or, length, take}
-use lib.Seq.{take-suc, take_all, length-take-le}
+use lib.ListN.{length, take}
 use Rattle.lists.specs.Bytes.{Put}
-use Rattle.lists.proofs.Chain.{one, none, then, tried, not-tried}
-use mathlib.Core.Path.{◌≡◌, refl}
-use Prim.Native.Nat.{◌≤◌, ◌<◌, ◌-◌, ◌+◌}
-use native.Mathlib.Omega.{arith}
+use mathlib.Core.Path.{◌≡◌}
+use Prim.Native.Nat.{◌≤◌, ◌-◌, ◌+◌}
 use Rattle.lists.proofs.put_bytes.Given as goal
 
 abbrev pub invariant-loop-i : goal.invariant-loop-i

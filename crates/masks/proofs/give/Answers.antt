@@ -1,13 +1,12 @@
 -- `masks::give` goes from bit to bit: what is left of the word is the word from the place on, and below the place all is given.
 use mathlib.Core.Path.{◌≡◌, refl, sym, ap, ◌∙◌}
-use Prim.Native.Nat.{◌/◌, ◌^◌, ℕ, ◌≤◌, ◌<◌, ◌-◌, ◌+◌}
+use Prim.Native.Nat.{◌/◌, ◌^◌, ℕ, ◌<◌, ◌-◌, ◌+◌}
 use native.Mathlib.Nat.{div-one}
 use native.Mathlib.Omega.{arith}
-use borrow.Author.Rules.{rules}
-use lib.ListN.{length, length-set, get_or}
+use lib.ListN.{length, length-set}
 use lib.Count.{count_trailing_zeros}
 use lib.Pow.{shr_le}
-use Rattle.masks.proofs.Turns.{Next, next_bit, so_far, give-none, give-turn, give-end}
+use Rattle.masks.proofs.Turns.{Next, next_bit, give-none, give-turn, give-end}
 use Rattle.masks.proofs.give.Goals as goal
 use Rattle.masks.proofs.give.Goals.{In-loop-rest}
 

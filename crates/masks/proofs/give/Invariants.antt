@@ -1,12 +1,7 @@
-use mathlib.Core.Path.{◌≡◌, refl, sym, ap, ◌∙◌}
-use Prim.Native.Nat.{◌/◌, ◌^◌, ℕ, ◌≤◌, ◌<◌, ◌-◌, ◌+◌}
-use native.Mathlib.Nat.{div-one}
-use native.Mathlib.Omega.{arith}
-use borrow.Author.Rules.{rules}
-use lib.ListN.{length, length-set, get_or}
-use lib.Count.{count_trailing_zeros}
-use lib.Pow.{shr_le}
-use Rattle.masks.proofs.Turns.{Next, next_bit, so_far, give-none, give-turn, give-end}
+use mathlib.Core.Path.{◌≡◌}
+use Prim.Native.Nat.{◌/◌, ◌^◌, ℕ, ◌≤◌, ◌<◌, ◌-◌}
+use lib.ListN.{length, get_or}
+use Rattle.masks.proofs.Turns.{so_far}
 use Rattle.masks.proofs.give.Given as goal
 
 abbrev pub invariant-loop-rest : goal.invariant-loop-rest

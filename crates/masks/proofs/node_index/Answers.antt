@@ -1,7 +1,6 @@
 use mathlib.Core.Path.{refl, sym}
 use Prim.Native.Nat.{◌-◌}
 use borrow.Author.Tests.{eq-eqb, ne_eqb}
-use borrow.Author.Rules.{rules}
 use lib.Dec.{eqb}
 use Rattle.words.proofs.Tests.{hit, skip}
 use Rattle.masks.proofs.node_index.Goals as goal

@@ -1,6 +1,5 @@
 -- One case for each answer: the variant that the match tells has the number that the arm answers.
 use mathlib.Core.Path.{sym, ap}
-use borrow.Author.Rules.{rules}
 use Rattle.node.specs.Answers.{number}
 use Rattle.node.proofs.code.Goals as goal
 

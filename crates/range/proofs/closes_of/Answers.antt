@@ -1,5 +1,4 @@
 use mathlib.Core.Path.{sym, ap}
-use borrow.Author.Rules.{rules}
 use Rattle.range.specs.Range.{closes_seen}
 use Rattle.node.specs.declared.Phase.{Phase}
 use Rattle.range.proofs.closes_of.Goals as goal

@@ -1,7 +1,6 @@
 use mathlib.Core.Bool.{◌&&◌, and-true}
 use mathlib.Core.Path.{sym, ◌∙◌}
 use lib.Dec.{leb, ltb}
-use borrow.Author.Rules.{rules}
 use Rattle.allotment.specs.Allotment.{top_request}
 use Rattle.words.proofs.Tests.{both}
 use Rattle.lists.proofs.Laws.{is}

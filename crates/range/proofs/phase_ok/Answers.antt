@@ -1,6 +1,5 @@
 use Rattle.node.specs.Core.{bare}
 use mathlib.Core.Path.{sym, ap, ◌∙◌}
-use borrow.Author.Rules.{rules}
 use Rattle.range.specs.Range.{phase_ok}
 use Rattle.node.specs.declared.Phase.{Phase}
 use Rattle.range.proofs.phase_ok.Goals as goal

@@ -1,7 +1,6 @@
 use mathlib.Core.Bool.{◌&&◌}
 use mathlib.Core.Path.{ap, ◌∙◌}
 use lib.Dec.{eqb}
-use borrow.Author.Rules.{rules}
 use Rattle.words.proofs.Tests.{both}
 use Rattle.lists.proofs.Laws.{is}
 use Rattle.lists.specs.All.{same}

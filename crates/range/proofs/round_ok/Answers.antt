@@ -2,7 +2,6 @@ use mathlib.Core.Bool.{◌&&◌}
 use mathlib.Core.Path.{ap}
 use Prim.Native.Nat.{ℕ}
 use lib.Dec.{eqb, leb}
-use borrow.Author.Rules.{rules}
 use Rattle.words.proofs.Tests.{both}
 use Rattle.lists.proofs.Laws.{is}
 use Rattle.node.specs.Figures.{top_version}

@@ -1,6 +1,5 @@
 use mathlib.Core.Bool.{not, ◌&&◌}
 use lib.Dec.{eqb}
-use borrow.Author.Rules.{rules}
 use Rattle.words.proofs.Tests.{both}
 use Rattle.lists.proofs.Laws.{is}
 use Rattle.range.specs.Range.{waiting_ok}

@@ -1,7 +1,6 @@
 use mathlib.Core.Path.{refl, sym, ◌∙◌}
 use Rattle.words.proofs.Tests.{hit, skip, both}
 use Rattle.site.specs.Load.{load_answer}
-use borrow.Author.Rules.{rules}
 use Rattle.site.proofs.load_answer.Goals as goal
 
 pub returns-then-config_ok-table_ok : goal.returns-then-config_ok-table_ok

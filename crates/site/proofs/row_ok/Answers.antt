@@ -2,7 +2,6 @@ use Rattle.node.specs.Answers.{is_done}
 use Rattle.site.specs.Load.{row_ok}
 use Rattle.site.proofs.Laws.{row-behind}
 use mathlib.Core.Path.{sym, ap, ◌∙◌}
-use borrow.Author.Rules.{rules}
 use Rattle.site.proofs.row_ok.Goals as goal
 
 pub returns-then-f-i : goal.returns-then-f-i

@@ -1,13 +1,10 @@
 use mathlib.Core.Bool.{Bool, ◌||◌}
 use Rattle.lists.proofs.Laws.{all_none, all_more, all_end}
-use lib.ListN.{get_or}
 use lib.Dec.{leb}
-use Rattle.lists.specs.All.{all_below}
-use Rattle.site.specs.Load.{row_ok, no_row, table_ok}
-use mathlib.Core.Path.{◌≡◌, ap}
-use Prim.Native.Nat.{◌≤◌, ◌-◌}
+use Rattle.site.specs.Load.{row_ok, table_ok}
+use mathlib.Core.Path.{ap}
+use Prim.Native.Nat.{◌-◌}
 use native.Mathlib.Omega.{arith}
-use borrow.Author.Rules.{rules}
 use Rattle.site.proofs.table_ok.Goals as goal
 
 pub loop-i-init : goal.loop-i-init

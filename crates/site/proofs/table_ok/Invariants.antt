@@ -1,13 +1,10 @@
-use mathlib.Core.Bool.{Bool, ◌||◌}
-use Rattle.lists.proofs.Laws.{all_none, all_more, all_end}
+use mathlib.Core.Bool.{◌||◌}
 use lib.ListN.{get_or}
 use lib.Dec.{leb}
 use Rattle.lists.specs.All.{all_below}
-use Rattle.site.specs.Load.{row_ok, no_row, table_ok}
-use mathlib.Core.Path.{◌≡◌, ap}
+use Rattle.site.specs.Load.{row_ok, no_row}
+use mathlib.Core.Path.{◌≡◌}
 use Prim.Native.Nat.{◌≤◌, ◌-◌}
-use native.Mathlib.Omega.{arith}
-use borrow.Author.Rules.{rules}
 use Rattle.site.proofs.table_ok.Given as goal
 
 abbrev pub invariant-loop-i : goal.invariant-loop-i

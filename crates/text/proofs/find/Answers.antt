@@ -1,9 +1,7 @@
-use lib.ListN.{length, drop}
-use Rattle.text.specs.Read.{before}
+use lib.ListN.{length}
 use Rattle.text.proofs.Pieces.{before_here, before_more, before-end}
 use borrow.Author.Rules.{rules}
-use mathlib.Core.Path.{◌≡◌}
-use Prim.Native.Nat.{◌≤◌, ◌<◌, ◌-◌, ◌+◌}
+use Prim.Native.Nat.{◌<◌, ◌-◌}
 use native.Mathlib.Omega.{arith}
 use Rattle.text.proofs.find.Goals as goal
 

@@ -1,10 +1,7 @@
 use lib.ListN.{length, drop}
 use Rattle.text.specs.Read.{before}
-use Rattle.text.proofs.Pieces.{before_here, before_more, before-end}
-use borrow.Author.Rules.{rules}
 use mathlib.Core.Path.{◌≡◌}
-use Prim.Native.Nat.{◌≤◌, ◌<◌, ◌-◌, ◌+◌}
-use native.Mathlib.Omega.{arith}
+use Prim.Native.Nat.{◌≤◌, ◌-◌, ◌+◌}
 use Rattle.text.proofs.find.Given as goal
 
 abbrev pub invariant-loop-i : goal.invariant-loop-i

@@ -1,10 +1,8 @@
 -- The digits read so far make the value; it is refused as soon as it would pass the greatest.
-use lib.ListN.{length, drop}
-use Rattle.text.specs.Read.{number_of, digits_from}
 use Rattle.text.proofs.Pieces.{number-none, number-zero, number-leading, number_digits, digits_low, digits-high, digits-large}
 use Rattle.text.proofs.Pieces.{digits_more, digits-end}
-use mathlib.Core.Path.{◌≡◌, sym, ◌∙◌}
-use Prim.Native.Nat.{◌≤◌, ◌-◌}
+use mathlib.Core.Path.{sym, ◌∙◌}
+use Prim.Native.Nat.{◌-◌}
 use native.Mathlib.Omega.{arith}
 use Rattle.text.proofs.number.Goals as goal
 

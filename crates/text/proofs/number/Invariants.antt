@@ -1,10 +1,7 @@
 use lib.ListN.{length, drop}
 use Rattle.text.specs.Read.{number_of, digits_from}
-use Rattle.text.proofs.Pieces.{number-none, number-zero, number-leading, number_digits, digits_low, digits-high, digits-large}
-use Rattle.text.proofs.Pieces.{digits_more, digits-end}
-use mathlib.Core.Path.{◌≡◌, sym, ◌∙◌}
+use mathlib.Core.Path.{◌≡◌}
 use Prim.Native.Nat.{◌≤◌, ◌-◌}
-use native.Mathlib.Omega.{arith}
 use Rattle.text.proofs.number.Given as goal
 
 abbrev pub invariant-loop-i : goal.invariant-loop-i

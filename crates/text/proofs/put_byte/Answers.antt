@@ -1,6 +1,5 @@
 use Rattle.lists.proofs.Chain.{one, tried, not-tried}
 use native.Mathlib.Omega.{arith}
-use borrow.Author.Rules.{rules}
 use Rattle.text.proofs.put_byte.Goals as goal
 
 pub returns-then-at-out : goal.returns-then-at-out

@@ -1,12 +1,9 @@
-use mathlib.Core.Path.{◌≡◌, refl, sym, ap, ◌∙◌}
-use mathlib.Core.List.{List}
-use Prim.Native.Nat.{ℕ, ◌≤◌, ◌+◌, ◌-◌}
-use native.Mathlib.Omega.{arith}
-use lib.ListN.{length, length-set}
+use mathlib.Core.Path.{◌≡◌}
+use Prim.Native.Nat.{◌≤◌, ◌-◌}
+use lib.ListN.{length}
 use Rattle.lists.specs.Bytes.{written}
-use Rattle.lists.proofs.Chain.{written_none}
 use Rattle.text.specs.Write.{decimal}
-use Rattle.text.proofs.Decimal.{lowest, digits-lowest, digit-back}
+use Rattle.text.proofs.Decimal.{lowest}
 use Rattle.text.proofs.put_digits.Given as goal
 
 -- What is left to be written are the lowest digits of what is left of the number.

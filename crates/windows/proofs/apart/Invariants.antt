@@ -1,14 +1,9 @@
-use mathlib.Core.Path.{◌≡◌, ap, ap₂, ◌∙◌}
+use mathlib.Core.Path.{◌≡◌}
 use Prim.Native.Nat.{◌≤◌, ◌<◌, ◌-◌}
-use native.Mathlib.Omega.{arith}
-use borrow.Author.Rules.{rules}
 use mathlib.Core.Bool.{not}
 use Rattle.lists.specs.All.{all_below}
-use Rattle.lists.proofs.Laws.{all_none, all_more, all_end}
 use Rattle.windows.specs.Windows.{overlap}
 use Rattle.windows.specs.Copies.{window_in}
-use Rattle.windows.specs.declared.Window.{Window}
-use Rattle.windows.proofs.Copies.{count_most}
 use Rattle.windows.proofs.apart.Given as goal
 
 abbrev pub invariant-loop-k : goal.invariant-loop-k

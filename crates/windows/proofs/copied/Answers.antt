@@ -8,7 +8,7 @@ use borrow.Author.Rules.{rules}
 use mathlib.Core.List.{List, [], ◌∷◌}
 use lib.ListN.{length, get_or, replicate, length-replicate, drop, drop_of_length-le}
 use Rattle.windows.specs.Windows.{no_window}
-use Rattle.windows.specs.Copies.{words_from, windows_of, copy_of}
+use Rattle.windows.specs.Copies.{words_from, windows_of}
 use Rattle.windows.specs.declared.Window.{Window}
 use Rattle.windows.proofs.copied.Goals as goal
 

@@ -1,17 +1,12 @@
-use mathlib.Core.Path.{◌≡◌, refl, sym, ◌∙◌}
-use mathlib.Core.Bool.{cond}
-use mathlib.Core.List.{◌++◌}
-use Prim.Native.Nat.{◌≤◌, ◌-◌, ◌+◌}
+use mathlib.Core.Path.{refl, sym, ◌∙◌}
+use Prim.Native.Nat.{◌-◌, ◌+◌}
 use native.Mathlib.Omega.{arith}
-use lib.Dec.{eqb}
-use lib.ListN.{length, drop, get_or, length-set}
-use Rattle.lists.specs.All.{tab}
+use lib.ListN.{length-set}
 use Rattle.lists.proofs.Laws.{fill_none, fill_more, fill_end, tab-ext}
 use Rattle.windows.specs.Windows.{due_all}
-use Rattle.windows.specs.Copies.{window_count, windows_in}
+use Rattle.windows.specs.Copies.{windows_in}
 use Rattle.windows.proofs.Copies.{count-in, count_most, window-in}
-use Rattle.windows.proofs.Demands.{Told, told_none, told-turn, told-all}
-use borrow.Author.Rules.{rules}
+use Rattle.windows.proofs.Demands.{told_none, told-turn, told-all}
 use Rattle.windows.proofs.due_all.Goals as goal
 
 -- src/lib.rt:242:5

@@ -1,8 +1,7 @@
 -- The lent list is tested and looked up in one pass (`Pass`): a turn meets the next window with one before it, or passes it.
-use mathlib.Core.Path.{◌≡◌, sym, subst, ◌∙◌}
-use Prim.Native.Nat.{◌<◌, ◌≤◌}
+use mathlib.Core.Path.{sym, subst, ◌∙◌}
+use Prim.Native.Nat.{◌<◌}
 use native.Mathlib.Omega.{arith}
-use lib.ListN.{length}
 use Rattle.windows.specs.Windows.{window_at}
 use Rattle.windows.specs.declared.Seen.{Seen}
 use Rattle.windows.proofs.Pass.{Going, going-begun, going-turn, left, turn-less}

@@ -3,7 +3,6 @@ use lib.ListN.{get_or}
 use mathlib.Core.Path.{◌≡◌, ap, ◌∙◌}
 use Prim.Native.Nat.{ℕ, ◌+◌, ◌*◌}
 use native.Mathlib.Omega.{arith}
-use borrow.Author.Rules.{rules}
 use Rattle.wire.proofs.packet_in.Goals as goal
 
 pub returns : goal.returns

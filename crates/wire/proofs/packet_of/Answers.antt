@@ -6,7 +6,6 @@ use lib.Seq.{take_all}
 use mathlib.Core.Path.{◌≡◌, sym, ap, ◌∙◌}
 use Prim.Native.Nat.{ℕ, ◌-◌, ◌+◌, ◌*◌}
 use native.Mathlib.Omega.{arith}
-use borrow.Author.Rules.{rules}
 use Rattle.wire.proofs.packet_of.Goals as goal
 
 pub returns-then-area-a : goal.returns-then-area-a

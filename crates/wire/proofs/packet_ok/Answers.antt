@@ -2,7 +2,6 @@ use Rattle.node.specs.Figures.{top_version}
 use Rattle.wire.specs.Reads.{packet_ok}
 use lib.Dec.{eqb, leb}
 use mathlib.Core.Bool.{not, ◌&&◌}
-use borrow.Author.Rules.{rules}
 use Rattle.wire.proofs.packet_ok.Goals as goal
 
 pub returns : goal.returns

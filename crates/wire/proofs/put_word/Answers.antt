@@ -1,5 +1,4 @@
 use Rattle.lists.proofs.Chain.{retry}
-use borrow.Author.Rules.{rules}
 use Rattle.wire.proofs.put_word.Goals as goal
 
 pub returns : goal.returns

@@ -7,10 +7,8 @@ use Rattle.words.proofs.Tests.{skip}
 use Rattle.node.specs.declared.Answer.TheVariants.{Done, WrongLength, BadContents}
 use Rattle.wire.specs.Layout.{packet_size, packet_in}
 use Rattle.wire.specs.Reads.{packet_ok, packet_answer}
-use mathlib.Core.Path.{◌≡◌, refl, sym, ap, ◌∙◌, subst}
-use Prim.Native.Nat.{ℕ, ◌≤◌, ◌<◌, ◌-◌, ◌+◌, ◌*◌}
-use native.Mathlib.Omega.{arith}
-use borrow.Author.Rules.{rules}
+use mathlib.Core.Path.{refl, sym}
+use Prim.Native.Nat.{◌-◌}
 use Rattle.wire.proofs.read_packet.Goals as goal
 
 -- src/lib.rt:155:1

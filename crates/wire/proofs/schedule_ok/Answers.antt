@@ -5,7 +5,6 @@ use Prim.Native.Nat.{ℕ, ◌-◌}
 use native.Mathlib.Omega.{arith}
 use lib.Dec.{leb, ltb}
 use lib.ListN.{length, take, drop}
-use borrow.Author.Rules.{rules}
 use Rattle.words.proofs.Tests.{both}
 use Rattle.lists.specs.All.{bounded}
 use Rattle.lists.specs.Bytes.{word32, window}

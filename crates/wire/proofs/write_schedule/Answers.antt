@@ -1,4 +1,4 @@
-use mathlib.Core.Bool.{Bool, true, cond, ◌&&◌, and-false}
+use mathlib.Core.Bool.{Bool, true, ◌&&◌, and-false}
 use mathlib.Core.List.{List}
 use mathlib.Core.Path.{◌≡◌, refl, sym, ap, ◌∙◌}
 use Prim.Native.Nat.{ℕ, ◌≤◌}
@@ -6,9 +6,9 @@ use native.Mathlib.Omega.{arith}
 use lib.Dec.{leb}
 use lib.ListN.{length}
 use borrow.Author.Rules.{rules}
-use borrow.Author.Tests.{le-leb, lt-leb, not-true, not-false}
+use borrow.Author.Tests.{le-leb, lt-leb}
 use Rattle.words.proofs.Tests.{hit, skip, both}
-use Rattle.lists.specs.Bytes.{bytes32, written, Tried}
+use Rattle.lists.specs.Bytes.{bytes32, Tried}
 use Rattle.masks.specs.Bytes.{masks_in, has_room}
 use Rattle.masks.specs.Air.{owners_to, owners_written}
 use Rattle.masks.proofs.Told.{length-told}

@@ -1,9 +1,8 @@
 -- `words::all` meets its contract.
-use borrow.Author.Rules.{rules}
 use lib.Pow.{shl_exact, pow_pos}
 use lib.Dec.{lit<}
 use native.Mathlib.Nat.{one-mul}
-use mathlib.Core.Path.{◌≡◌, sym, ap, ◌∙◌}
+use mathlib.Core.Path.{◌≡◌, ap, ◌∙◌}
 use native.Mathlib.Omega.{arith}
 use Prim.Native.Nat.{ℕ, min, ◌^◌, ◌-◌}
 use Rattle.words.proofs.all.Goals as goal

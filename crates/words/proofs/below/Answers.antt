@@ -2,12 +2,9 @@ use Rattle.words.proofs.Laws.{below-shift}
 use borrow.Author.Tests.{lt-ltb}
 use lib.Pow.{pow_mono}
 use native.Mathlib.Nat.{lt_of_lt_of_le}
-use mathlib.Core.Path.{◌≡◌, refl, sym, ap, ◌∙◌, subst}
-use Prim.Native.Nat.{ℕ, ◌≤◌, ◌<◌, ◌-◌, ◌+◌, ◌*◌, ◌^◌}
+use mathlib.Core.Path.{sym}
+use Prim.Native.Nat.{◌<◌, ◌^◌}
 use native.Mathlib.Omega.{arith}
-use borrow.Author.Rules.{rules}
-use Rattle.words.proofs.below.Reads as reads
-use Rattle.words.proofs.below.Lts as lts
 use Rattle.words.proofs.below.Goals as goal
 
 -- src/lib.rt:45:1

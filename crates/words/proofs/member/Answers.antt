@@ -1,13 +1,8 @@
 use borrow.Author.Tests.{lt-ltb, le-ltb}
 use mathlib.Core.Bool.{Bool, ◌&&◌}
 use Rattle.words.specs.Bits.{has_bit}
-use mathlib.Core.Path.{◌≡◌, refl, sym, ap, ◌∙◌, subst}
-use Prim.Native.Nat.{ℕ, ◌≤◌, ◌<◌, ◌-◌, ◌+◌, ◌*◌}
-use native.Mathlib.Omega.{arith}
-use borrow.Author.Rules.{rules}
-use Rattle.words.proofs.member.Reads as reads
-use Rattle.words.proofs.member.Lts as lts
-use Rattle.words.proofs.contains.Reads as contains-reads
+use mathlib.Core.Path.{sym, ap, ◌∙◌}
+use Prim.Native.Nat.{◌-◌}
 use Rattle.words.proofs.member.Goals as goal
 
 -- src/lib.rt:38:1

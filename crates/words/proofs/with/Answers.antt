@@ -1,5 +1,4 @@
 -- `words::with` meets its contract.
-use borrow.Author.Rules.{rules}
 use borrow.Author.Tests.{lt-ltb, le-ltb}
 use lib.Pow.{shl_exact}
 use lib.Dec.{lit<}

@@ -2,17 +2,16 @@
 -- the rows are those of the rule's draft after the slots before it.
 use mathlib.Core.Path.{◌≡◌, sym, ap, ap₂, ◌∙◌}
 use mathlib.Core.Bool.{true, not, ◌&&◌}
-use mathlib.Core.List.{List, ◌++◌}
+use mathlib.Core.List.{List}
 use mathlib.Core.Logic.{◌≢◌}
-use Prim.Native.Nat.{ℕ, min, ◌≤◌, ◌<◌, ◌-◌, ◌+◌}
+use Prim.Native.Nat.{ℕ, ◌≤◌, ◌<◌, ◌-◌, ◌+◌}
 use native.Mathlib.Omega.{arith}
 use borrow.Author.Rules.{rules}
 use borrow.Author.Tests.{le-leb, lt-ltb, ltb-true, ltb-false, eqb-false, not-true}
 use lib.Dec.{eqb, ltb, leb}
-use lib.ListN.{length, get_or, length-set, drop, replicate}
+use lib.ListN.{length, get_or, length-set}
 use lib.Seq.{get_or-set_other}
 use Rattle.words.proofs.Tests.{by-test, hit, and_left, and_right}
-use Rattle.lists.specs.All.{tab}
 use Rattle.lists.specs.Bytes.{written}
 use Rattle.lists.proofs.Laws.{fill_none, fill_more, length-tab}
 use Rattle.lists.proofs.Chain.{put}
@@ -20,18 +19,17 @@ use Rattle.masks.specs.Slots.{Masks}
 use Rattle.masks.specs.Slots.{has_slot, from_words, low_of, high_of, owners_in}
 use Rattle.masks.specs.Bytes.{masks_size, masks_bytes, masks_in, first_words}
 use Rattle.masks.proofs.Rows.{length-masks}
-use Rattle.masks.specs.Inner.{taken}
 use Rattle.masks.proofs.Taken.{taken_none, taken-turn}
 use Rattle.masks.proofs.Fits.{taken-rest}
 use Rattle.masks.proofs.Moves.{rest, first-all}
 use Rattle.allotment.specs.declared.Share.{Share}
-use Rattle.allotment.specs.Allotment.{chosen, holding}
+use Rattle.allotment.specs.Allotment.{holding}
 use Rattle.allotment.specs.Inner.{node_kept, own_low, own_high}
 use Rattle.allotment.proofs.Turns.{fill-may, fill-at}
 use Rattle.allotment.proofs.OwnSlots.{share_of, keep-is}
 use Rattle.allotment.proofs.FewRows.{fill-past, fill-rest, low-none, high-none, held_none}
 use Rattle.allotment.proofs.GivenSlots.{frees}
-use Rattle.allotment.proofs.DraftRows.{So, so-kept, so-on, so-turn, so-done}
+use Rattle.allotment.proofs.DraftRows.{so-kept, so-on, so-turn, so-done}
 use Rattle.allotment.proofs.inplace.allot.Goals as goal
 
 -- a slot is left, and a node is chosen

@@ -1,7 +1,6 @@
 use mathlib.Core.Path.{◌≡◌, ap, ◌∙◌}
 use Prim.Native.Nat.{ℕ, ◌<◌, ◌-◌, ◌^◌}
 use native.Mathlib.Omega.{arith}
-use borrow.Author.Rules.{rules}
 use Rattle.words.specs.Bits.{has_bit, how_many}
 use Rattle.allotment.specs.declared.Few.{Few}
 use Rattle.allotment.specs.Inner.{lowest_of, node_kept}

@@ -1,7 +1,7 @@
 -- `lowest` goes from bit to bit: what is left of the word is the word from the place on, and below the place the lowest are kept.
 use mathlib.Core.Path.{◌≡◌, sym, ◌∙◌, subst}
 use mathlib.Core.Logic.{inl, inr}
-use Prim.Native.Nat.{ℕ, ◌≤◌, ◌<◌, ◌-◌, ◌+◌, ◌*◌, ◌/◌, ◌%◌, ◌^◌}
+use Prim.Native.Nat.{ℕ, ◌<◌, ◌-◌, ◌+◌, ◌*◌, ◌%◌, ◌^◌}
 use native.Mathlib.Nat.{div-one, one-mul}
 use native.Mathlib.Omega.{arith}
 use lib.Bits

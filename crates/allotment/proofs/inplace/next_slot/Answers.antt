@@ -1,6 +1,5 @@
 use Prim.Native.Nat.{◌-◌}
 use native.Mathlib.Omega.{arith}
-use borrow.Author.Rules.{rules}
 use Rattle.allotment.proofs.TwoWords.{slot-low, slot-high}
 use Rattle.allotment.proofs.inplace.next_slot.Goals as goal
 

@@ -12,7 +12,6 @@ use Rattle.machine.specs.Acts.{heard_put}
 use Rattle.machine.proofs.Moves.{heard-core, next-put}
 use Rattle.machine.proofs.Seats.{at-node-index}
 use Rattle.machine.proofs.Whole.{at_place}
-use borrow.Author.Rules.{rules}
 use Rattle.machine.proofs.acts.hear.Goals as goal
 
 pub returns-then-no_node : goal.returns-then-no_node

@@ -10,7 +10,6 @@ use Rattle.node.specs.Negotiation.{hear_answer}
 use mathlib.Core.Path.{refl, sym, ap, ◌∙◌}
 use Rattle.words.proofs.Tests.{hit, skip}
 use Prim.Native.Nat.{◌-◌}
-use borrow.Author.Rules.{rules}
 use Rattle.machine.proofs.acts.hear_answer.Goals as goal
 
 pub returns-then-no_node : goal.returns-then-no_node

@@ -1,11 +1,10 @@
-use mathlib.Core.Path.{sym, ap₂, refl, ◌∙◌}
+use mathlib.Core.Path.{sym, ap₂, refl}
 use mathlib.Core.Bool.{◌||◌}
 use Rattle.words.proofs.Tests.{or-front}
 use Rattle.site.specs.Members.{outside}
 use Rattle.machine.specs.Layout.{store, too_short, config_in}
 use Rattle.machine.proofs.Seats.{outside-as}
 use Rattle.machine.proofs.Whole.{long-enough}
-use borrow.Author.Rules.{rules}
 use Rattle.machine.proofs.acts.no_node.Goals as goal
 
 pub returns-then-words-bytes : goal.returns-then-words-bytes

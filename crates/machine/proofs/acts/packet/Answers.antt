@@ -11,7 +11,6 @@ use Rattle.machine.specs.Layout.{store, config_in, node_in}
 use Rattle.machine.specs.Acts.{packet_sent}
 use Rattle.machine.proofs.Seats.{at-node-index}
 use Rattle.machine.proofs.Whole.{at_place}
-use borrow.Author.Rules.{rules}
 use Rattle.machine.proofs.acts.packet.Goals as goal
 
 pub returns-then-no_node : goal.returns-then-no_node

@@ -3,8 +3,7 @@ use mathlib.Core.Bool.{Bool}
 use Rattle.lists.specs.Bytes.{written}
 use Rattle.node.specs.Core.{bare}
 use Rattle.machine.specs.Inner.{member_of}
-use Rattle.machine.specs.Layout.{node_bytes_at, node_words, stored_front}
-use borrow.Author.Rules.{rules}
+use Rattle.machine.specs.Layout.{node_bytes_at, stored_front}
 use Rattle.machine.proofs.acts.put_next.Goals as goal
 
 pub returns : goal.returns

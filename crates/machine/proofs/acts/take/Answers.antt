@@ -8,7 +8,6 @@ use Rattle.machine.specs.Written.{taken_at}
 use Rattle.machine.specs.Acts.{no_node_at, taken_put}
 use Rattle.machine.proofs.Seats.{at-node-index}
 use Rattle.machine.proofs.Whole.{at_place}
-use borrow.Author.Rules.{rules}
 use Rattle.machine.proofs.acts.take.Goals as goal
 
 pub returns-then-no_node : goal.returns-then-no_node

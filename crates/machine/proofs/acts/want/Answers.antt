@@ -6,7 +6,6 @@ use Rattle.machine.specs.Written.{demanded}
 use Rattle.machine.specs.Acts.{wanted_put}
 use Rattle.machine.proofs.Seats.{at-node-index}
 use Rattle.machine.proofs.Whole.{at_place}
-use borrow.Author.Rules.{rules}
 use Rattle.machine.proofs.acts.want.Goals as goal
 
 pub returns-then-no_node : goal.returns-then-no_node

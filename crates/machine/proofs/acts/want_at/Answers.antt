@@ -1,11 +1,10 @@
-use mathlib.Core.Path.{◌≡◌, ap, ◌∙◌}
+use mathlib.Core.Path.{ap, ◌∙◌}
 use Prim.Native.Nat.{ℕ, ◌+◌}
 use lib.ListN.{set}
 use Rattle.node.specs.Core.{bare}
 use Rattle.node.specs.declared.Core.{Core}
 use Rattle.node.proofs.Laws.{wants}
 use Rattle.machine.specs.Layout.{node_bytes_at}
-use borrow.Author.Rules.{rules}
 use Rattle.machine.proofs.acts.want_at.Goals as goal
 
 pub returns : goal.returns

@@ -3,7 +3,6 @@ use mathlib.Core.Path.{sym, ap, ◌∙◌}
 use Prim.Native.Nat.{◌-◌}
 use Rattle.machine.specs.Layout.{store, site_in}
 use Rattle.site.specs.Answers.{event_answer}
-use borrow.Author.Rules.{rules}
 use Rattle.machine.proofs.answers.answer.Goals as goal
 
 pub returns-in-Send : goal.returns-in-Send

@@ -4,7 +4,6 @@ use Rattle.node.specs.declared.Answer.TheVariants.{Done, WrongPhase}
 use Rattle.site.specs.Answers.{site_close}
 use Rattle.machine.specs.Layout.{store}
 use Rattle.machine.proofs.steps.Asked.{phase}
-use borrow.Author.Rules.{rules}
 use Rattle.machine.proofs.answers.close_answer.Goals as goal
 
 pub returns : goal.returns

@@ -4,7 +4,6 @@ use Rattle.words.proofs.Tests.{hit, skip}
 use Rattle.machine.specs.Layout.{store}
 use Rattle.machine.proofs.steps.Asked.{out, up}
 use Rattle.site.specs.Answers.{site_crash}
-use borrow.Author.Rules.{rules}
 use Rattle.machine.proofs.answers.crash_answer.Goals as goal
 
 pub returns-then-outside : goal.returns-then-outside

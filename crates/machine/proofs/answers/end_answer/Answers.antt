@@ -4,7 +4,6 @@ use Rattle.node.specs.declared.Answer.TheVariants.{Done, WrongPhase}
 use Rattle.site.specs.Answers.{site_end}
 use Rattle.machine.specs.Layout.{store, site_in}
 use Rattle.machine.proofs.steps.Asked.{phase}
-use borrow.Author.Rules.{rules}
 use Rattle.machine.proofs.answers.end_answer.Goals as goal
 
 turned-about : (t : Bool) → cond (not t) Done WrongPhase ≡ cond t WrongPhase Done

@@ -4,7 +4,6 @@ use Rattle.wire.specs.Reads.{part_of}
 use Rattle.machine.specs.Layout.{store, site_in}
 use Rattle.machine.specs.steps.After.{site_heard}
 use Rattle.machine.proofs.steps.Asked.{heard-there}
-use borrow.Author.Rules.{rules}
 use Rattle.machine.proofs.answers.hear_answer.Goals as goal
 
 pub returns : goal.returns

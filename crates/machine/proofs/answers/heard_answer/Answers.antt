@@ -2,7 +2,6 @@
 use mathlib.Core.Path.{refl, sym, ap, ◌∙◌}
 use mathlib.Core.Bool.{not}
 use Rattle.words.proofs.Tests.{hit, skip}
-use borrow.Author.Tests.{not-true, not-false}
 use Rattle.machine.specs.Layout.{store, site_in}
 use Rattle.machine.proofs.steps.Asked.{heard-read, ready-out, hear-refused, hear-rest}
 use Rattle.site.specs.Answers.{answer_part}
@@ -13,7 +12,6 @@ use Rattle.wire.specs.declared.PacketRead.{PacketRead}
 use Rattle.site.specs.Answers.{is_packet}
 use Rattle.site.specs.declared.SiteHeader.{SiteHeader}
 use Rattle.site.specs.Members.{member_at}
-use borrow.Author.Rules.{rules}
 use Rattle.machine.proofs.answers.heard_answer.Goals as goal
 
 pub returns-then-not-is_done : goal.returns-then-not-is_done

@@ -5,7 +5,6 @@ use Rattle.words.proofs.Tests.{hit, skip}
 use Rattle.machine.specs.Layout.{store}
 use Rattle.machine.proofs.steps.Asked.{out, phase, live}
 use Rattle.machine.specs.steps.Inner.{answer_ready}
-use borrow.Author.Rules.{rules}
 use Rattle.machine.proofs.answers.ready.Goals as goal
 
 pub returns-then-outside : goal.returns-then-outside

@@ -2,14 +2,12 @@
 use mathlib.Core.Path.{refl, sym, ap, ◌∙◌}
 use Prim.Native.Nat.{◌-◌}
 use Rattle.words.proofs.Tests.{hit, skip}
-use borrow.Author.Tests.{not-true, not-false}
 use Rattle.machine.specs.Layout.{store}
 use Rattle.machine.proofs.steps.Asked.{out, up}
 use Rattle.site.specs.Answers.{site_restart}
 use Rattle.node.specs.Figures.{flags_ok}
 use Rattle.site.specs.Members.{setup_of}
 use Rattle.site.specs.declared.SiteHeader.{SiteHeader}
-use borrow.Author.Rules.{rules}
 use Rattle.machine.proofs.answers.restart_answer.Goals as goal
 
 pub returns-then-not-flags_ok : goal.returns-then-not-flags_ok

@@ -2,7 +2,6 @@
 use mathlib.Core.Path.{refl, sym, ap, ◌∙◌}
 use Prim.Native.Nat.{◌-◌}
 use Rattle.words.proofs.Tests.{hit, skip}
-use borrow.Author.Tests.{not-true, not-false}
 use Rattle.machine.specs.Layout.{store, site_in}
 use Rattle.machine.proofs.steps.Asked.{the-phase, ready-out, send-refused, send-rest}
 use Rattle.node.specs.Negotiation.{in_negotiation}
@@ -10,7 +9,6 @@ use Rattle.node.proofs.Bare.{send-phase}
 use Rattle.site.specs.Members.{member_at}
 use Rattle.site.specs.Answers.{is_full}
 use Rattle.site.specs.declared.SiteHeader.{SiteHeader}
-use borrow.Author.Rules.{rules}
 use Rattle.machine.proofs.answers.send_answer.Goals as goal
 
 pub returns-then-not-is_done : goal.returns-then-not-is_done

@@ -14,7 +14,6 @@ use Rattle.node.specs.Model.{Node}
 use Rattle.node.specs.Distribution.{may_take, take_answer}
 use Rattle.node.proofs.Bare.{take-phase}
 use Rattle.node.proofs.Tested.{take-sends}
-use borrow.Author.Rules.{rules}
 use Rattle.machine.proofs.answers.take_answer.Goals as goal
 
 pub returns-then-outside : goal.returns-then-outside

@@ -1,6 +1,5 @@
 use mathlib.Core.Path.{refl, sym, ◌∙◌}
 use Rattle.words.proofs.Tests.{hit, skip}
-use borrow.Author.Rules.{rules}
 use Rattle.machine.proofs.combined.first_of.Goals as goal
 
 pub returns-then-is_done : goal.returns-then-is_done

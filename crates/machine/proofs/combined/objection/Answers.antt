@@ -5,7 +5,6 @@ use Rattle.windows.specs.Windows.{list_ok}
 use Rattle.windows.specs.Copies.{windows_in}
 use Rattle.machine.specs.Layout.{store}
 use Rattle.machine.proofs.Whole.{as-header}
-use borrow.Author.Rules.{rules}
 use Rattle.machine.proofs.combined.objection.Goals as goal
 
 pub returns-then-is_valid : goal.returns-then-is_valid

@@ -1,7 +1,6 @@
 use mathlib.Core.Path.{refl, sym, ap₂, ◌∙◌}
 use mathlib.Core.Bool.{◌&&◌}
 use Rattle.words.proofs.Tests.{hit, skip}
-use borrow.Author.Rules.{rules}
 use Rattle.machine.proofs.combined.tally_behind.Goals as goal
 
 pub tally_at-requires : goal.tally_at-requires

@@ -4,7 +4,6 @@ use lib.Dec.{ltb}
 use lib.ListN.{length}
 use Rattle.site.specs.Answers.{area_size}
 use Rattle.machine.specs.Layout.{store, too_short}
-use borrow.Author.Rules.{rules}
 use Rattle.machine.proofs.combined.too_few.Goals as goal
 
 pub returns : goal.returns

@@ -1,15 +1,11 @@
-use mathlib.Core.Path.{◌≡◌, refl, ◌∙◌}
+use mathlib.Core.Path.{◌≡◌}
 use Prim.Native.Nat.{◌≤◌, ◌-◌, ◌+◌}
-use native.Mathlib.Omega.{arith}
 use mathlib.Core.List.{◌++◌}
 use lib.ListN.{length, drop}
 use Rattle.lists.specs.All.{tab}
-use Rattle.lists.proofs.Laws.{fill_none, fill_more, fill_end}
 use Rattle.machine.specs.Layout.{store, site_in}
 use Rattle.tally.specs.Claims.{held_by}
 use Rattle.tally.specs.Ends.{schedules_of}
-use borrow.Author.Rules.{rules}
-use Rattle.machine.proofs.combined.Held.{slots_read_lem}
 use Rattle.machine.proofs.epochs.slots_held.Given as goal
 
 abbrev pub invariant-loop-i : goal.invariant-loop-i

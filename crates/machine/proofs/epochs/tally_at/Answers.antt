@@ -9,7 +9,6 @@ use Rattle.machine.proofs.Whole.{as-header}
 use Rattle.tally.specs.Counting.{counted_by}
 use Rattle.tally.specs.Ends.{schedules_of, tally_at}
 use Rattle.tally.proofs.Valid.{counted-by}
-use borrow.Author.Rules.{rules}
 use Rattle.machine.proofs.epochs.tally_at.Goals as goal
 
 pub slots_held-requires : goal.slots_held-requires

@@ -9,7 +9,6 @@ use Rattle.node.specs.declared.Answer.TheVariants.{Done}
 use Rattle.site.specs.Answers.{event_answer}
 use Rattle.site.specs.Steps.{next_area}
 use Rattle.site.specs.declared.Event.{Event}
-use borrow.Author.Rules.{rules}
 use Rattle.machine.proofs.events.apply.Goals as goal
 
 -- an arm knows which event it has: what is said of that event is said of the one lent

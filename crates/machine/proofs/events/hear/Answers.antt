@@ -4,7 +4,6 @@ use Rattle.site.proofs.Accepted.{hear-accepted}
 use Rattle.machine.specs.Layout.{store, site_in}
 use Rattle.machine.specs.steps.After.{heard_store}
 use Rattle.machine.proofs.steps.Asked.{heard-there}
-use borrow.Author.Rules.{rules}
 use Rattle.machine.proofs.events.hear.Goals as goal
 
 pub overflow_sub-p : goal.overflow_sub-p

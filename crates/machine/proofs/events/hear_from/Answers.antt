@@ -4,7 +4,6 @@ use Rattle.machine.specs.Layout.{Store, store, site_in}
 use Rattle.machine.proofs.Seats.{in-config}
 use Rattle.machine.proofs.steps.Asked.{heard-out}
 use Rattle.machine.proofs.steps.Acts.{heard-put}
-use borrow.Author.Rules.{rules}
 use Rattle.machine.proofs.events.hear_from.Goals as goal
 
 pub returns : goal.returns

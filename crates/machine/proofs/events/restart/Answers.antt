@@ -9,7 +9,6 @@ use Rattle.machine.proofs.Seats.{in-config}
 use Rattle.machine.proofs.Whole.{stored-member}
 use Rattle.machine.specs.steps.After.{restarted_store}
 use Rattle.machine.proofs.steps.Acts.{waits}
-use borrow.Author.Rules.{rules}
 use Rattle.machine.proofs.events.restart.Goals as goal
 
 pub returns : goal.returns

@@ -1,7 +1,6 @@
 use mathlib.Core.Path.{◌∙◌}
 use Rattle.machine.specs.Layout.{store}
 use Rattle.machine.proofs.steps.Acts.{area-sent}
-use borrow.Author.Rules.{rules}
 use Rattle.machine.proofs.events.send.Goals as goal
 
 pub returns : goal.returns

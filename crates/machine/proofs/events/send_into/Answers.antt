@@ -9,7 +9,6 @@ use Rattle.machine.specs.Layout.{store, config_in, site_in, at_sent}
 use Rattle.machine.proofs.Seats.{at-node-index, in-config}
 use Rattle.machine.specs.steps.After.{sent_store}
 use Rattle.machine.proofs.steps.Acts.{sent-at, sent-packet, packet-there}
-use borrow.Author.Rules.{rules}
 use Rattle.machine.proofs.events.send_into.Goals as goal
 
 pub overflow_add-bytes : goal.overflow_add-bytes

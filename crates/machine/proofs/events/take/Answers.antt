@@ -3,7 +3,6 @@ use Rattle.site.proofs.Accepted.{take-accepted}
 use Rattle.machine.specs.Layout.{Store, store, site_in}
 use Rattle.machine.proofs.Seats.{in-config}
 use Rattle.machine.proofs.steps.Acts.{taken-put}
-use borrow.Author.Rules.{rules}
 use Rattle.machine.proofs.events.take.Goals as goal
 
 pub returns : goal.returns

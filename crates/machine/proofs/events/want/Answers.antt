@@ -4,7 +4,6 @@ use Rattle.site.proofs.Accepted.{want-accepted}
 use Rattle.machine.specs.Layout.{Store, store, site_in}
 use Rattle.machine.proofs.Seats.{in-config}
 use Rattle.machine.proofs.steps.Acts.{wanted-put}
-use borrow.Author.Rules.{rules}
 use Rattle.machine.proofs.events.want.Goals as goal
 
 pub overflow_cast-d : goal.overflow_cast-d

@@ -6,7 +6,6 @@ use Rattle.machine.specs.Layout.{Store, store}
 use Rattle.machine.specs.Loading.{figured, loaded_at, filled_store}
 use Rattle.machine.proofs.Whole.{few_words, few_bytes, enough}
 use Rattle.machine.proofs.Loads.{refused, done}
-use borrow.Author.Rules.{rules}
 use Rattle.machine.proofs.load.begin_site.Goals as goal
 
 pub returns-then-words-lt-WORDS : goal.returns-then-words-lt-WORDS

@@ -1,17 +1,14 @@
 -- After i turns the first i nodes are loaded.
-use mathlib.Core.Path.{◌≡◌, refl, ap, ◌∙◌}
-use Prim.Native.Nat.{◌≤◌, ◌-◌}
+use mathlib.Core.Path.{refl, ap, ◌∙◌}
+use Prim.Native.Nat.{◌-◌}
 use native.Mathlib.Omega.{arith}
 use Prim.Native.Nat.{min}
-use lib.ListN.{length}
-use Rattle.lists.specs.All.{iter}
 use Rattle.lists.proofs.Laws.{iter-none}
 use Rattle.site.specs.Model.{Member}
 use Rattle.machine.specs.Layout.{store}
 use Rattle.machine.specs.Written.{written_free}
 use Rattle.machine.specs.Loading.{loaded_at}
 use Rattle.machine.proofs.Turns.{turn, turned}
-use borrow.Author.Rules.{rules}
 use Rattle.machine.proofs.load.put_nodes.Goals as goal
 
 pub loop-i-init : goal.loop-i-init

@@ -1,16 +1,10 @@
-use mathlib.Core.Path.{◌≡◌, refl, ap, ◌∙◌}
+use mathlib.Core.Path.{◌≡◌}
 use Prim.Native.Nat.{◌≤◌, ◌-◌}
-use native.Mathlib.Omega.{arith}
 use Prim.Native.Nat.{min}
 use lib.ListN.{length}
 use Rattle.lists.specs.All.{iter}
-use Rattle.lists.proofs.Laws.{iter-none}
-use Rattle.site.specs.Model.{Member}
 use Rattle.machine.specs.Layout.{store}
-use Rattle.machine.specs.Written.{written_free}
 use Rattle.machine.specs.Loading.{loaded_at}
-use Rattle.machine.proofs.Turns.{turn, turned}
-use borrow.Author.Rules.{rules}
 use Rattle.machine.proofs.load.put_nodes.Given as goal
 
 abbrev pub invariant-loop-i : goal.invariant-loop-i

@@ -1,4 +1,4 @@
-use mathlib.Core.Path.{◌≡◌, refl, sym, ap, ◌∙◌}
+use mathlib.Core.Path.{sym, ap, ◌∙◌}
 use Rattle.words.proofs.Tests.{hit, skip}
 use Rattle.node.specs.Begin.{waiting}
 use Rattle.node.specs.Core.{core_of}
@@ -11,7 +11,6 @@ use Rattle.machine.specs.Layout.{store, config_in}
 use Rattle.machine.specs.Loading.{member_read}
 use Rattle.machine.proofs.Seats.{config-are, outside-as, at-node-index}
 use Rattle.machine.proofs.Whole.{long-enough, stored-read}
-use borrow.Author.Rules.{rules}
 use Rattle.machine.proofs.look.core.Goals as goal
 
 pub returns-then-words-bytes : goal.returns-then-words-bytes

@@ -1,9 +1,8 @@
 use mathlib.Core.Path.{sym, ◌∙◌, refl}
 use Rattle.words.proofs.Tests.{hit, skip}
-use Rattle.machine.specs.Layout.{store, too_short}
+use Rattle.machine.specs.Layout.{store}
 use Rattle.machine.specs.Loading.{header_read}
 use Rattle.machine.proofs.Whole.{long-enough}
-use borrow.Author.Rules.{rules}
 use Rattle.machine.proofs.look.header.Goals as goal
 
 pub returns-then-words-bytes : goal.returns-then-words-bytes

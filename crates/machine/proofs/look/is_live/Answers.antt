@@ -2,7 +2,6 @@ use mathlib.Core.Path.{sym, ◌∙◌}
 use Prim.Native.Nat.{◌-◌}
 use Rattle.machine.specs.Layout.{store}
 use Rattle.machine.proofs.Whole.{at_place, none-live, live-read}
-use borrow.Author.Rules.{rules}
 use Rattle.machine.proofs.look.is_live.Goals as goal
 
 pub returns-then-no_node : goal.returns-then-no_node

@@ -1,7 +1,6 @@
 use mathlib.Core.Path.{ap, ap₂, ◌∙◌}
 use mathlib.Core.Bool.{Bool, not, ◌&&◌}
 use Rattle.node.specs.Figures.{is_waiting}
-use borrow.Author.Rules.{rules}
 use Rattle.machine.proofs.look.live.Goals as goal
 
 pub returns : goal.returns

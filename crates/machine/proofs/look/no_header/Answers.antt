@@ -1,9 +1,7 @@
 use mathlib.Core.Path.{ap}
 use Rattle.site.specs.Counts.{none_sent}
-use Rattle.site.specs.declared.SiteHeader.{SiteHeader}
 use Rattle.node.specs.declared.Config.{Config}
 use mathlib.Core.Bool.{true}
-use borrow.Author.Rules.{rules}
 use Rattle.machine.proofs.look.no_header.Goals as goal
 
 pub returns : goal.returns

@@ -7,7 +7,6 @@ use Rattle.machine.specs.Layout.{Store, store, too_short, config_in}
 use Rattle.machine.specs.Written.{written_free, member_put}
 use Rattle.machine.proofs.Seats.{outside-as, at-node-index}
 use Rattle.machine.proofs.Whole.{long-enough, stored-member}
-use borrow.Author.Rules.{rules}
 use Rattle.machine.proofs.look.set_free.Goals as goal
 
 pub returns-then-words-bytes : goal.returns-then-words-bytes

@@ -1,5 +1,4 @@
 use mathlib.Core.Path.{sym, ◌∙◌}
-use borrow.Author.Rules.{rules}
 use Rattle.node.specs.Figures.{is_waiting}
 use Rattle.site.specs.Members.{node_index}
 use Rattle.machine.specs.Layout.{store, up_in, phase_in}

@@ -3,7 +3,6 @@ use Prim.Native.Nat.{ℕ}
 use lib.Dec.{eqb}
 use lib.ListN.{get_or}
 use Rattle.machine.specs.Layout.{node_bytes_at}
-use borrow.Author.Rules.{rules}
 use Rattle.machine.proofs.look.up.Goals as goal
 
 pub returns : goal.returns

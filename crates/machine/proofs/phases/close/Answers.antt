@@ -6,7 +6,6 @@ use Rattle.machine.specs.Layout.{Store, store}
 use Rattle.machine.specs.Written.{phased, closed_store, store_closed}
 use Rattle.machine.proofs.Whole.{long-enough, as-closed}
 use mathlib.Core.List.{List}
-use borrow.Author.Rules.{rules}
 use Rattle.machine.proofs.phases.close.Goals as goal
 
 pub returns-then-words-bytes : goal.returns-then-words-bytes

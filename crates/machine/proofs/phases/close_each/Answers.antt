@@ -2,14 +2,12 @@ use mathlib.Core.Path.{◌≡◌, refl, ap, ◌∙◌}
 use Prim.Native.Nat.{◌≤◌, ◌<◌, ◌-◌}
 use native.Mathlib.Omega.{arith}
 use lib.ListN.{length}
-use Rattle.lists.specs.All.{iter}
 use Rattle.lists.proofs.Laws.{iter-none}
 use Rattle.node.specs.declared.Config.{Config}
 use Rattle.machine.specs.Layout.{store, config_at, words_size}
 use Rattle.machine.specs.Written.{closes, close_change, each, nodes_in}
 use Rattle.site.specs.Steps.{close_member}
 use Rattle.machine.proofs.Turns.{turn, turned, config-kept}
-use borrow.Author.Rules.{rules}
 use Rattle.machine.proofs.phases.close_each.Goals as goal
 
 pub overflow_cast-n : goal.overflow_cast-n

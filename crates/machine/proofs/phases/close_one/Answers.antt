@@ -1,16 +1,13 @@
 use mathlib.Core.Path.{◌≡◌, sym, ap, ◌∙◌}
 use mathlib.Core.Bool.{Bool, true, false, ◌&&◌}
 use native.Mathlib.Omega.{arith}
-use borrow.Author.Rules.{rules}
-use borrow.Author.Tests.{not-true, not-false}
 use Rattle.words.proofs.Tests.{both, and_left}
 use Rattle.node.specs.Answers.{is_done}
 use Rattle.node.specs.Close.{close_answer}
-use Rattle.node.specs.Core.{core_of, core_closed}
+use Rattle.node.specs.Core.{core_of}
 use Rattle.node.specs.Negotiation.{in_negotiation}
 use Rattle.node.proofs.Bare.{close-phase}
 use Rattle.node.specs.declared.Core.{Core}
-use Rattle.node.specs.declared.CoreStep.{CoreStep}
 use Rattle.site.specs.Model.{Member}
 use Rattle.site.specs.Steps.{close_member}
 use Rattle.machine.specs.Layout.{Store, store, node_in, stored_in}

@@ -10,7 +10,6 @@ use mathlib.Core.Bool.{cond}
 use lib.ListN.{get_or, set}
 use Rattle.node.specs.Figures.{is_last}
 use Rattle.node.specs.declared.Config.{Config}
-use borrow.Author.Rules.{rules}
 use Rattle.machine.proofs.phases.end.Goals as goal
 
 pub returns-then-words-bytes : goal.returns-then-words-bytes

@@ -1,15 +1,10 @@
-use mathlib.Core.Path.{◌≡◌, refl, ap, ◌∙◌}
-use Prim.Native.Nat.{◌≤◌, ◌<◌, ◌-◌}
-use native.Mathlib.Omega.{arith}
+use mathlib.Core.Path.{◌≡◌}
+use Prim.Native.Nat.{◌≤◌, ◌-◌}
 use lib.ListN.{length}
 use Rattle.lists.specs.All.{iter}
-use Rattle.lists.proofs.Laws.{iter-none}
-use Rattle.node.specs.declared.Config.{Config}
-use Rattle.machine.specs.Layout.{store, config_at, words_size}
-use Rattle.machine.specs.Written.{ends, end_change, each, nodes_in}
+use Rattle.machine.specs.Layout.{store, config_at}
+use Rattle.machine.specs.Written.{ends, end_change, each}
 use Rattle.site.specs.Steps.{end_member}
-use Rattle.machine.proofs.Turns.{turn, turned, config-kept}
-use borrow.Author.Rules.{rules}
 use Rattle.machine.proofs.phases.end_each.Given as goal
 
 abbrev pub invariant-loop-i : goal.invariant-loop-i

@@ -5,8 +5,6 @@ use lib.ListN.{length}
 use Rattle.lists.specs.Bytes.{written}
 use mathlib.Core.Bool.{Bool, true, false, ◌&&◌}
 use native.Mathlib.Omega.{arith}
-use borrow.Author.Rules.{rules}
-use borrow.Author.Tests.{not-true, not-false}
 use Rattle.words.proofs.Tests.{both}
 use Rattle.node.specs.Answers.{is_done}
 use Rattle.node.specs.Core.{core_of, bare, core_ended}

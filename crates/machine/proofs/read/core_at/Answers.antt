@@ -1,4 +1,3 @@
-use borrow.Author.Rules.{rules}
 use Rattle.machine.proofs.read.core_at.Goals as goal
 
 pub core_with-requires : goal.core_with-requires

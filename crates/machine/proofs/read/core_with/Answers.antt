@@ -2,7 +2,6 @@ use Rattle.node.specs.Model.{Node}
 use Rattle.site.specs.Members.{setup_of}
 use Rattle.machine.specs.Layout.{store, node_in}
 use Prim.Native.Nat.{◌-◌, ◌+◌}
-use borrow.Author.Rules.{rules}
 use Rattle.machine.proofs.read.core_with.Goals as goal
 
 pub returns : goal.returns

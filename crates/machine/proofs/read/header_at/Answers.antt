@@ -1,7 +1,6 @@
 use Prim.Native.Nat.{◌-◌}
 use Rattle.site.specs.Model.{Site}
 use Rattle.machine.specs.Layout.{store, site_in}
-use borrow.Author.Rules.{rules}
 use Rattle.machine.proofs.read.header_at.Goals as goal
 
 pub returns : goal.returns

@@ -3,7 +3,6 @@ use Prim.Native.Nat.{◌-◌}
 use mathlib.Core.Bool.{Bool, not, ◌&&◌}
 use mathlib.Core.Path.{ap₂}
 use Rattle.node.specs.Figures.{is_waiting}
-use borrow.Author.Rules.{rules}
 use Rattle.machine.proofs.read.is_live.Goals as goal
 
 pub returns : goal.returns

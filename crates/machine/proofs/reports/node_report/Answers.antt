@@ -1,6 +1,4 @@
 use mathlib.Core.Path.{sym, ◌∙◌}
-use borrow.Author.Rules.{rules}
-use borrow.Author.Tests.{not-true, not-false}
 use Rattle.machine.specs.Layout.{store}
 use Rattle.machine.proofs.reports.Laws.{none_told, all_told}
 use Rattle.machine.proofs.reports.node_report.Goals as goal

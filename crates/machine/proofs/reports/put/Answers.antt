@@ -1,6 +1,4 @@
 use mathlib.Core.Path.{sym, ◌∙◌}
-use borrow.Author.Rules.{rules}
-use borrow.Author.Tests.{not-true, not-false}
 use Rattle.machine.specs.Layout.{store}
 use Rattle.machine.proofs.reports.Laws.{accepts-long, no_place, no-close-put, put-there}
 use Rattle.machine.proofs.reports.put.Goals as goal

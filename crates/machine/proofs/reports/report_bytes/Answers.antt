@@ -1,10 +1,8 @@
-use mathlib.Core.List.{List, ◌++◌}
-use mathlib.Core.Path.{◌≡◌}
-use Prim.Native.Nat.{ℕ, ◌≤◌, ◌-◌, ◌/◌, ◌%◌}
+use mathlib.Core.List.{List}
+use Prim.Native.Nat.{ℕ, ◌-◌, ◌/◌, ◌%◌}
 use native.Mathlib.Omega.{arith}
-use lib.ListN.{length, drop, get_or}
+use lib.ListN.{get_or}
 use borrow.Author.Rules.{rules}
-use Rattle.lists.specs.All.{tab}
 use Rattle.lists.proofs.Laws.{fill_none, fill_more, fill_end}
 use Rattle.machine.specs.reports.Reports.{no_node_report, report_byte, report_bytes}
 use Rattle.machine.specs.declared.NodeReport.{NodeReport}

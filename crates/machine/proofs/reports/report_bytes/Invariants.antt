@@ -1,12 +1,9 @@
 use mathlib.Core.List.{List, ◌++◌}
 use mathlib.Core.Path.{◌≡◌}
 use Prim.Native.Nat.{ℕ, ◌≤◌, ◌-◌, ◌/◌, ◌%◌}
-use native.Mathlib.Omega.{arith}
 use lib.ListN.{length, drop, get_or}
-use borrow.Author.Rules.{rules}
 use Rattle.lists.specs.All.{tab}
-use Rattle.lists.proofs.Laws.{fill_none, fill_more, fill_end}
-use Rattle.machine.specs.reports.Reports.{no_node_report, report_byte, report_bytes}
+use Rattle.machine.specs.reports.Reports.{no_node_report, report_byte}
 use Rattle.machine.specs.declared.NodeReport.{NodeReport}
 use Rattle.machine.proofs.reports.report_bytes.Given as goal
 

@@ -1,6 +1,4 @@
 use mathlib.Core.Path.{sym, ap, ◌∙◌}
-use borrow.Author.Rules.{rules}
-use borrow.Author.Tests.{not-true, not-false}
 use Rattle.node.specs.Answers.{is_done}
 use Rattle.machine.specs.Layout.{store}
 use Rattle.machine.specs.steps.After.{storage_answer}

@@ -1,6 +1,5 @@
 use mathlib.Core.Bool.{true}
 use mathlib.Core.Path.{refl, sym, ap, ◌∙◌}
-use borrow.Author.Rules.{rules}
 use Rattle.words.proofs.Tests.{hit, skip}
 use Rattle.node.specs.Core.{bare}
 use Rattle.node.specs.Grounds.{ground_of}

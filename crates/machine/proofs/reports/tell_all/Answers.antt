@@ -1,11 +1,10 @@
 use mathlib.Core.Bool.{true}
-use mathlib.Core.List.{List, ◌++◌}
+use mathlib.Core.List.{List}
 use mathlib.Core.Path.{◌≡◌, ap, ◌∙◌}
-use Prim.Native.Nat.{ℕ, ◌≤◌, ◌-◌, ◌+◌}
+use Prim.Native.Nat.{ℕ, ◌-◌, ◌+◌}
 use native.Mathlib.Omega.{arith}
-use lib.ListN.{length, drop, get_or}
+use lib.ListN.{get_or}
 use borrow.Author.Rules.{rules}
-use Rattle.lists.specs.All.{tab}
 use Rattle.lists.proofs.Laws.{fill_none, fill_more, fill_end}
 use Rattle.site.specs.Members.{nobody}
 use Rattle.machine.specs.Layout.{Store, store, site_in}

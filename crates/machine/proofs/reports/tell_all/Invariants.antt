@@ -1,18 +1,12 @@
 use mathlib.Core.Bool.{true}
-use mathlib.Core.List.{List, ◌++◌}
-use mathlib.Core.Path.{◌≡◌, ap, ◌∙◌}
+use mathlib.Core.List.{◌++◌}
+use mathlib.Core.Path.{◌≡◌}
 use Prim.Native.Nat.{ℕ, ◌≤◌, ◌-◌, ◌+◌}
-use native.Mathlib.Omega.{arith}
 use lib.ListN.{length, drop, get_or}
-use borrow.Author.Rules.{rules}
 use Rattle.lists.specs.All.{tab}
-use Rattle.lists.proofs.Laws.{fill_none, fill_more, fill_end}
 use Rattle.site.specs.Members.{nobody}
 use Rattle.machine.specs.Layout.{Store, store, site_in}
-use Rattle.machine.proofs.Whole.{long-enough}
-use Rattle.machine.proofs.Whole.{as_member}
-use Rattle.machine.specs.reports.Reports.{member_report, report_of}
-use Rattle.machine.specs.declared.Report.{Report}
+use Rattle.machine.specs.reports.Reports.{member_report}
 use Rattle.machine.specs.declared.NodeReport.{NodeReport}
 use Rattle.machine.proofs.reports.tell_all.Given as goal
 

@@ -2,7 +2,6 @@ use Rattle.wire.specs.Reads.{part_of}
 use Rattle.machine.specs.Layout.{store}
 use Rattle.machine.proofs.Whole.{long-enough}
 use Rattle.machine.proofs.steps.Whole.{part-short, part-is}
-use borrow.Author.Rules.{rules}
 use Rattle.machine.proofs.steps.answer_from.Goals as goal
 
 pub returns-then-words-bytes : goal.returns-then-words-bytes

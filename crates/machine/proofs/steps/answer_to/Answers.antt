@@ -1,7 +1,6 @@
 use Rattle.machine.specs.Layout.{store}
 use Rattle.machine.proofs.Whole.{few_words, few_bytes, enough}
 use Rattle.machine.proofs.steps.Whole.{short-storage, short-area, by-event}
-use borrow.Author.Rules.{rules}
 use Rattle.machine.proofs.steps.answer_to.Goals as goal
 
 pub returns-then-words-lt-WORDS : goal.returns-then-words-lt-WORDS

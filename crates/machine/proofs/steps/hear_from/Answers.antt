@@ -1,11 +1,9 @@
 use mathlib.Core.Path.{sym, ap, ◌∙◌}
-use borrow.Author.Tests.{not-true, not-false}
 use Rattle.node.specs.Answers.{is_done}
 use Rattle.wire.specs.Reads.{part_of}
 use Rattle.machine.specs.Layout.{store}
 use Rattle.machine.proofs.Whole.{long-enough}
 use Rattle.machine.proofs.steps.Whole.{part-told, refused-part, done-part}
-use borrow.Author.Rules.{rules}
 use Rattle.machine.proofs.steps.hear_from.Goals as goal
 
 pub returns-then-not-is_done : goal.returns-then-not-is_done

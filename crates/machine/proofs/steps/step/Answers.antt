@@ -1,11 +1,9 @@
 -- The answer decides between nothing and what the event writes; an accepted event tells that the storage is long enough.
 use mathlib.Core.Path.{sym, ap, ◌∙◌}
-use borrow.Author.Tests.{not-true, not-false}
 use Rattle.node.specs.Answers.{is_done}
 use Rattle.machine.specs.Layout.{store}
 use Rattle.machine.proofs.Whole.{long-enough}
 use Rattle.machine.proofs.steps.Whole.{told, refused, accepted}
-use borrow.Author.Rules.{rules}
 use Rattle.machine.proofs.steps.step.Goals as goal
 
 pub returns-then-not-is_done : goal.returns-then-not-is_done

@@ -1,7 +1,6 @@
 use mathlib.Core.Path.{◌∙◌}
 use Rattle.machine.specs.Layout.{store}
 use Rattle.machine.proofs.Whole.{as-header}
-use borrow.Author.Rules.{rules}
 use Rattle.machine.proofs.steps_read.header_at.Goals as goal
 
 pub returns : goal.returns

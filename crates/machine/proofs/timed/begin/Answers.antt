@@ -1,6 +1,5 @@
 use mathlib.Core.Path.{◌≡◌, refl, sym, ap, ◌∙◌}
 use mathlib.Core.Bool.{true, false}
-use borrow.Author.Tests.{not-true, not-false}
 use Rattle.node.specs.Figures.{is_last}
 use Rattle.words.proofs.Tests.{hit, skip}
 use Rattle.site.specs.declared.SiteHeader.{SiteHeader}
@@ -10,7 +9,6 @@ use Rattle.machine.specs.Layout.{Store, store, site_in}
 use Rattle.machine.specs.timed.Timed.{in_last_round}
 use Rattle.machine.specs.timed.Stored.{given_store, begun_store}
 use Rattle.machine.specs.declared.Day.{Day}
-use borrow.Author.Rules.{rules}
 use Rattle.machine.proofs.timed.begin.Goals as goal
 
 pub returns-then-not-in_last_round : goal.returns-then-not-in_last_round

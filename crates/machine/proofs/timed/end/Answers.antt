@@ -1,12 +1,10 @@
 -- The refusals in their order, then the demands of the next epoch and the storage's own end.
 use mathlib.Core.Path.{◌≡◌, sym, ◌∙◌}
-use borrow.Author.Tests.{not-true, not-false}
 use Rattle.site.specs.declared.Event.TheVariants.{End}
 use Rattle.windows.specs.Copies.{windows_in}
 use Rattle.machine.specs.Layout.{store}
 use Rattle.machine.specs.timed.Stored.{begun_store}
 use Rattle.machine.proofs.timed.Known.{refused-plain, refused-list, accepted-header, done-tested}
-use borrow.Author.Rules.{rules}
 use Rattle.machine.proofs.timed.end.Goals as goal
 
 pub returns-then-not-is_done : goal.returns-then-not-is_done

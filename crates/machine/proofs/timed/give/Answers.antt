@@ -15,7 +15,6 @@ use Rattle.machine.specs.timed.Stored.{given_at, given_store}
 use Rattle.machine.specs.timed.Inner.{no_demand}
 use Rattle.machine.proofs.Whole.{long-enough}
 use Rattle.machine.proofs.timed.Byte.{none-short, none-area, one_byte}
-use borrow.Author.Rules.{rules}
 use Rattle.machine.proofs.timed.give.Goals as goal
 
 pub returns-then-is_empty : goal.returns-then-is_empty

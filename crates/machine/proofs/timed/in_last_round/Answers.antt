@@ -1,4 +1,3 @@
-use borrow.Author.Rules.{rules}
 use Rattle.machine.proofs.timed.in_last_round.Goals as goal
 
 pub returns : goal.returns

@@ -1,5 +1,4 @@
 use mathlib.Core.Path.{refl, sym, ap, ◌∙◌}
-use borrow.Author.Tests.{not-true, not-false}
 use Rattle.node.specs.Answers.{is_done}
 use Rattle.node.specs.declared.Answer.TheVariants.{BadWindows}
 use Rattle.windows.specs.Copies.{windows_in}
@@ -7,7 +6,6 @@ use Rattle.machine.specs.Layout.{store}
 use Rattle.machine.proofs.Whole.{long-enough}
 use Rattle.machine.proofs.timed.Laws.{load-plain, load-bad, load-accepts}
 use Rattle.machine.proofs.timed.Stored.{short-load, refused-by, done-load}
-use borrow.Author.Rules.{rules}
 use Rattle.machine.proofs.timed.load.Goals as goal
 
 pub returns-then-words-bytes : goal.returns-then-words-bytes

@@ -1,7 +1,6 @@
 use Rattle.windows.specs.Copies.{windows_in}
 use Rattle.machine.specs.Layout.{store}
 use Rattle.machine.proofs.timed.Known.{by-list}
-use borrow.Author.Rules.{rules}
 use Rattle.machine.proofs.timed.step.Goals as goal
 
 pub returns : goal.returns

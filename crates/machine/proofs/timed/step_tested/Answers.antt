@@ -7,7 +7,6 @@ use Rattle.windows.specs.Copies.{windows_in}
 use Rattle.machine.specs.Layout.{store}
 use Rattle.machine.proofs.timed.Laws.{end_is}
 use Rattle.machine.proofs.timed.Known.{TestedIs, plain-tested}
-use borrow.Author.Rules.{rules}
 use Rattle.machine.proofs.timed.step_tested.Goals as goal
 
 pub returns-then-is_end : goal.returns-then-is_end

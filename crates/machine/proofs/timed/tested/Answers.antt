@@ -1,10 +1,8 @@
 use mathlib.Core.Path.{refl, sym, ap, ◌∙◌}
-use borrow.Author.Tests.{not-true, not-false}
 use Rattle.words.proofs.Tests.{hit, skip}
 use Rattle.site.specs.declared.SiteHeader.{SiteHeader}
 use Rattle.windows.specs.Windows.{list_ok}
 use Rattle.windows.specs.Copies.{windows_in}
-use borrow.Author.Rules.{rules}
 use Rattle.machine.proofs.timed.tested.Goals as goal
 
 pub returns-then-not-is_end : goal.returns-then-not-is_end

@@ -1,5 +1,4 @@
 use mathlib.Core.Path.{sym, ◌∙◌}
-use borrow.Author.Rules.{rules}
 use Rattle.machine.specs.Layout.{schedules_at}
 use Rattle.node.proofs.Moved.{keep-moved}
 use Rattle.machine.proofs.write.move_schedules.Goals as goal

@@ -1,5 +1,3 @@
-use Prim.Native.Nat.{◌-◌}
-use borrow.Author.Rules.{rules}
 use Rattle.machine.proofs.write.put_core.Goals as goal
 
 pub returns : goal.returns

@@ -1,7 +1,6 @@
 use mathlib.Core.List.{List}
 use mathlib.Core.Path.{ap, ◌∙◌}
 use Prim.Native.Nat.{ℕ}
-use borrow.Author.Rules.{rules}
 use Rattle.node.specs.InPlace.{moved_in}
 use Rattle.node.specs.declared.Move.TheVariants.{Free}
 use Rattle.machine.specs.Layout.{schedules_at}

@@ -1,5 +1,4 @@
 use Prim.Native.Nat.{◌-◌}
-use borrow.Author.Rules.{rules}
 use Rattle.machine.proofs.write.put_opened.Goals as goal
 
 pub put_opened_front-requires : goal.put_opened_front-requires

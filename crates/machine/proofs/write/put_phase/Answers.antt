@@ -1,7 +1,5 @@
 use mathlib.Core.Path.{refl}
-use Prim.Native.Nat.{◌-◌}
 use native.Mathlib.Omega.{arith}
-use borrow.Author.Rules.{rules}
 use Rattle.machine.proofs.Writes.{then_one}
 use Rattle.machine.specs.Layout.{at_sent, at_phase}
 use Rattle.site.specs.Counts.{none_sent}

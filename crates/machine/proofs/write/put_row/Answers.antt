@@ -1,6 +1,4 @@
 use Rattle.machine.specs.Layout.{node_words}
-use Prim.Native.Nat.{◌-◌}
-use borrow.Author.Rules.{rules}
 use Rattle.machine.proofs.write.put_row.Goals as goal
 
 pub returns : goal.returns

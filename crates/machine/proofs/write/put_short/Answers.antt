@@ -1,10 +1,9 @@
 -- After i turns the first i numbers are written.
 use native.Mathlib.Nat.{add-zero}
-use lib.ListN.{length-set, length, take}
-use Rattle.lists.specs.Bytes.{Put}
+use lib.ListN.{length-set, length}
 use Rattle.lists.proofs.Chain.{none}
 use mathlib.Core.Path.{◌≡◌, refl}
-use Prim.Native.Nat.{◌≤◌, ◌-◌, ◌+◌}
+use Prim.Native.Nat.{◌-◌}
 use native.Mathlib.Omega.{arith}
 use Rattle.machine.proofs.Writes.{put-more, put-end}
 use borrow.Author.Rules.{rules}

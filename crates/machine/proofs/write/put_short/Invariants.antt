@@ -1,12 +1,7 @@
-use native.Mathlib.Nat.{add-zero}
-use lib.ListN.{length-set, length, take}
+use lib.ListN.{length, take}
 use Rattle.lists.specs.Bytes.{Put}
-use Rattle.lists.proofs.Chain.{none}
-use mathlib.Core.Path.{◌≡◌, refl}
+use mathlib.Core.Path.{◌≡◌}
 use Prim.Native.Nat.{◌≤◌, ◌-◌, ◌+◌}
-use native.Mathlib.Omega.{arith}
-use Rattle.machine.proofs.Writes.{put-more, put-end}
-use borrow.Author.Rules.{rules}
 use Rattle.machine.proofs.write.put_short.Given as goal
 
 abbrev pub invariant-loop-i : goal.invariant-loop-i

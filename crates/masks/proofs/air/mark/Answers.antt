@@ -1,4 +1,3 @@
-use mathlib.Core.List.{List}
 use mathlib.Core.Path.{◌≡◌, refl, sym, ap, ap₂, ◌∙◌}
 use Prim.Native.Nat.{ℕ, ◌≤◌, ◌<◌, ◌-◌, ◌+◌, ◌*◌, ◌%◌, ◌^◌}
 use native.Mathlib.Nat.{one-mul}
@@ -8,11 +7,9 @@ use lib.Pow.{shl_exact}
 use lib.ListN.{length}
 use borrow.Author.Tests.{lt-ltb, le-ltb}
 use Rattle.words.proofs.Tests.{hit, skip}
-use Rattle.lists.specs.Bytes.{written, Tried}
 use Rattle.lists.proofs.Chain.{put, retry}
 use Rattle.masks.specs.Bytes.{word64, bytes64, word16, bytes16, at_high}
 use native.Mathlib.Omega.{arith}
-use borrow.Author.Rules.{rules}
 use Rattle.masks.proofs.air.mark.Goals as goal
 
 -- a bit of a word of n bits

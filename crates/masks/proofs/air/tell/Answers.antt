@@ -4,15 +4,13 @@ use mathlib.Core.Path.{◌≡◌, refl, sym, ap, ◌∙◌}
 use Prim.Native.Nat.{ℕ, ◌≤◌, ◌<◌, ◌-◌, ◌+◌}
 use native.Mathlib.Omega.{arith}
 use lib.Dec.{leb}
-use lib.ListN.{length, take, drop, length-drop}
+use lib.ListN.{length, drop, length-drop}
 use lib.Seq.{length-take-le}
-use borrow.Author.Rules.{rules}
-use borrow.Author.Tests.{le-leb, lt-leb, not-true, not-false, leb-true}
+use borrow.Author.Tests.{le-leb, lt-leb, leb-true}
 use borrow.Rule.Slice.PartMut.{put_mid}
 use Rattle.words.proofs.Tests.{hit, skip, both}
-use Rattle.lists.specs.Bytes.{written}
 use Rattle.lists.proofs.Laws.{part-written}
-use Rattle.masks.specs.Bytes.{masks_size, masks_in, has_room}
+use Rattle.masks.specs.Bytes.{masks_in, has_room}
 use Rattle.masks.specs.Air.{owners_to, owners_written}
 use Rattle.masks.proofs.Told.{length-told, told-min}
 use Rattle.masks.proofs.air.tell.Goals as goal

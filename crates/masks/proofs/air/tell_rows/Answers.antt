@@ -11,7 +11,7 @@ use borrow.Author.Rules.{rules}
 use Rattle.lists.specs.All.{tab}
 use Rattle.lists.proofs.Laws.{length-tab}
 use Rattle.masks.specs.Slots.{low_of, high_of, first, holds}
-use Rattle.masks.specs.Bytes.{masks_size, masks_in}
+use Rattle.masks.specs.Bytes.{masks_in}
 use Rattle.masks.specs.Air.{owners_to}
 use Rattle.masks.specs.Inner.{slots_given}
 use Rattle.masks.proofs.First.{first-zero}

@@ -1,10 +1,7 @@
-use mathlib.Core.List.{◌++◌}
 use mathlib.Core.Path.{◌≡◌, refl, sym, ◌∙◌}
-use Prim.Native.Nat.{ℕ, ◌≤◌, ◌<◌, ◌-◌}
+use Prim.Native.Nat.{ℕ, ◌<◌, ◌-◌}
 use native.Mathlib.Omega.{arith}
-use lib.ListN.{length, length-set, drop}
-use borrow.Author.Rules.{rules}
-use Rattle.lists.specs.All.{tab}
+use lib.ListN.{length, length-set}
 use Rattle.lists.proofs.Laws.{fill_none, fill_more, fill_end}
 use Rattle.masks.proofs.Turns.{tab-zeros}
 use Rattle.masks.proofs.air.wipe_owners.Goals as goal

@@ -3,7 +3,6 @@ use Prim.Native.Nat.{ℕ, ◌-◌, ◌+◌}
 use native.Mathlib.Omega.{arith}
 use lib.ListN.{take, drop}
 use Rattle.lists.specs.All.{bounded}
-use borrow.Author.Rules.{rules}
 use Rattle.masks.proofs.bytes.is_blank.Goals as goal
 
 pub returns : goal.returns

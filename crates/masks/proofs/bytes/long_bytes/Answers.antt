@@ -2,7 +2,6 @@ use mathlib.Core.List.{List, [], ◌∷◌}
 use mathlib.Core.Path.{ap₂}
 use lib.ListN.{get_or}
 use Prim.Native.Nat.{ℕ}
-use borrow.Author.Rules.{rules}
 use Rattle.masks.proofs.bytes.long_bytes.Goals as goal
 
 pub returns : goal.returns

@@ -1,12 +1,9 @@
-use lib.ListN.{get_or}
-use Rattle.lists.specs.Bytes.{written}
 use Rattle.lists.proofs.Chain.{written_none}
 use Rattle.masks.specs.Bytes.{bytes16, rows}
 use Rattle.masks.proofs.Moves.{words-turn, words_long, words-end}
-use mathlib.Core.Path.{◌≡◌, refl, sym}
-use Prim.Native.Nat.{◌≤◌, ◌-◌}
+use mathlib.Core.Path.{refl, sym}
+use Prim.Native.Nat.{◌-◌}
 use native.Mathlib.Omega.{arith}
-use borrow.Author.Rules.{rules}
 use Rattle.masks.proofs.bytes.put_second.Goals as goal
 
 pub loop-i-init : goal.loop-i-init

@@ -1,12 +1,8 @@
 use lib.ListN.{get_or}
 use Rattle.lists.specs.Bytes.{written}
-use Rattle.lists.proofs.Chain.{written_none}
 use Rattle.masks.specs.Bytes.{bytes16, rows}
-use Rattle.masks.proofs.Moves.{words-turn, words_long, words-end}
-use mathlib.Core.Path.{◌≡◌, refl, sym}
+use mathlib.Core.Path.{◌≡◌}
 use Prim.Native.Nat.{◌≤◌, ◌-◌}
-use native.Mathlib.Omega.{arith}
-use borrow.Author.Rules.{rules}
 use Rattle.masks.proofs.bytes.put_second.Given as goal
 
 abbrev pub invariant-loop-i : goal.invariant-loop-i

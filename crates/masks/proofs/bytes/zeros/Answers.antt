@@ -1,10 +1,10 @@
 use native.Mathlib.Nat.{add-zero}
-use lib.ListN.{length, length-set, replicate}
-use Rattle.lists.specs.Bytes.{Put, written}
+use lib.ListN.{length-set, replicate}
+use Rattle.lists.specs.Bytes.{written}
 use Rattle.lists.proofs.Chain.{none}
 use Rattle.masks.proofs.Moves.{zeros-more}
 use mathlib.Core.Path.{◌≡◌, refl, ap, ◌∙◌}
-use Prim.Native.Nat.{ℕ, ◌≤◌, ◌-◌, ◌+◌}
+use Prim.Native.Nat.{ℕ, ◌-◌, ◌+◌}
 use native.Mathlib.Omega.{arith}
 use Rattle.masks.proofs.bytes.zeros.Goals as goal
 

@@ -1,11 +1,7 @@
-use native.Mathlib.Nat.{add-zero}
-use lib.ListN.{length, length-set, replicate}
-use Rattle.lists.specs.Bytes.{Put, written}
-use Rattle.lists.proofs.Chain.{none}
-use Rattle.masks.proofs.Moves.{zeros-more}
-use mathlib.Core.Path.{◌≡◌, refl, ap, ◌∙◌}
-use Prim.Native.Nat.{ℕ, ◌≤◌, ◌-◌, ◌+◌}
-use native.Mathlib.Omega.{arith}
+use lib.ListN.{length, replicate}
+use Rattle.lists.specs.Bytes.{Put}
+use mathlib.Core.Path.{◌≡◌}
+use Prim.Native.Nat.{◌≤◌, ◌-◌, ◌+◌}
 use Rattle.masks.proofs.bytes.zeros.Given as goal
 
 abbrev pub invariant-loop-i : goal.invariant-loop-i

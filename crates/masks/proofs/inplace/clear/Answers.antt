@@ -1,5 +1,5 @@
 use mathlib.Core.List.{List}
-use borrow.Author.Tests.{not-true, not-false, leb-true}
+use borrow.Author.Tests.{leb-true}
 use lib.ListN.{length, replicate}
 use Rattle.words.proofs.Tests.{hit, skip}
 use Rattle.lists.specs.Bytes.{written}
@@ -8,7 +8,6 @@ use Rattle.masks.proofs.Moves.{zeros-twice}
 use mathlib.Core.Path.{refl, sym, ap, ◌∙◌}
 use Prim.Native.Nat.{ℕ, ◌-◌, ◌+◌}
 use native.Mathlib.Omega.{arith}
-use borrow.Author.Rules.{rules}
 use Rattle.masks.proofs.inplace.clear.Goals as goal
 
 pub returns-then-not-has_room : goal.returns-then-not-has_room

@@ -1,6 +1,6 @@
 use mathlib.Core.List.{List}
 use mathlib.Core.Bool.{true, ◌&&◌}
-use borrow.Author.Tests.{not-true, not-false, leb-true}
+use borrow.Author.Tests.{leb-true}
 use lib.ListN.{length}
 use Rattle.words.proofs.Tests.{hit, skip, both, and_left, and_right}
 use Rattle.lists.specs.Bytes.{window, written}
@@ -11,7 +11,6 @@ use Rattle.masks.proofs.Moves.{part_at, long-part, part-kept, parts_are, overlap
 use mathlib.Core.Path.{◌≡◌, refl, sym, ap, ◌∙◌}
 use Prim.Native.Nat.{ℕ, ◌≤◌, ◌<◌, ◌-◌, ◌+◌, ◌*◌}
 use native.Mathlib.Omega.{arith}
-use borrow.Author.Rules.{rules}
 use Rattle.masks.proofs.inplace.copy.Goals as goal
 
 -- room at both places

@@ -1,17 +1,9 @@
-use mathlib.Core.List.{List}
-use mathlib.Core.Bool.{true, ◌&&◌}
-use borrow.Author.Tests.{not-true, not-false, leb-true}
 use lib.ListN.{length}
-use Rattle.words.proofs.Tests.{hit, skip, both, and_left, and_right}
-use Rattle.lists.specs.Bytes.{window, written}
-use Rattle.lists.proofs.Chain.{written_none}
-use Rattle.masks.specs.Bytes.{masks_size, rows, has_room, can_copy}
-use Rattle.masks.proofs.Rows.{length_part, rows_more}
-use Rattle.masks.proofs.Moves.{part_at, long-part, part-kept, parts_are, overlaps, apart, can-copy, no_room}
-use mathlib.Core.Path.{◌≡◌, refl, sym, ap, ◌∙◌}
-use Prim.Native.Nat.{ℕ, ◌≤◌, ◌<◌, ◌-◌, ◌+◌, ◌*◌}
-use native.Mathlib.Omega.{arith}
-use borrow.Author.Rules.{rules}
+use Rattle.lists.specs.Bytes.{written}
+use Rattle.masks.specs.Bytes.{masks_size, rows}
+use Rattle.masks.proofs.Moves.{part_at}
+use mathlib.Core.Path.{◌≡◌}
+use Prim.Native.Nat.{◌≤◌, ◌-◌, ◌+◌}
 use Rattle.masks.proofs.inplace.copy.Given as goal
 
 abbrev pub invariant-loop-i : goal.invariant-loop-i

@@ -1,5 +1,5 @@
 use mathlib.Core.Bool.{Bool, ◌&&◌}
-use borrow.Author.Tests.{not-true, not-false, leb-true}
+use borrow.Author.Tests.{leb-true}
 use lib.Dec.{eqb}
 use Rattle.words.proofs.Tests.{both, and_right}
 use Rattle.masks.specs.Bytes.{masks_in, fitting, fit_read}
@@ -10,7 +10,6 @@ use Rattle.masks.proofs.Fits.{first-fit, blank-fits}
 use mathlib.Core.Path.{sym, ap, ◌∙◌}
 use Prim.Native.Nat.{◌-◌}
 use native.Mathlib.Omega.{arith}
-use borrow.Author.Rules.{rules}
 use Rattle.masks.proofs.inplace.fit.Goals as goal
 
 pub returns-then-not-has_room : goal.returns-then-not-has_room

@@ -1,8 +1,6 @@
 use mathlib.Core.Path.{sym, ◌∙◌}
 use Prim.Native.Nat.{◌-◌}
 use native.Mathlib.Omega.{arith}
-use borrow.Author.Rules.{rules}
-use borrow.Author.Tests.{not-true, not-false}
 use Rattle.words.proofs.Tests.{both}
 use Rattle.masks.proofs.Parts.{Bytes}
 use Rattle.masks.proofs.Moves.{rest-is, low-fails, high-fails}

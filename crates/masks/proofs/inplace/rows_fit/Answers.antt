@@ -1,4 +1,3 @@
-use borrow.Author.Tests.{not-true, not-false}
 use Rattle.words.proofs.Tests.{both}
 use Rattle.masks.proofs.Fits.{rows-wrong}
 use mathlib.Core.Path.{ap₂}
@@ -11,9 +10,8 @@ use Rattle.masks.specs.Inner.{taken, ends_by}
 use Rattle.masks.proofs.Taken.{taken_none, taken-turn, tidy-turn}
 use Rattle.masks.proofs.Rows.{low_read, high_read, count-read}
 use mathlib.Core.Path.{◌≡◌, sym, ap, ◌∙◌}
-use Prim.Native.Nat.{ℕ, ◌≤◌, ◌<◌, ◌-◌}
+use Prim.Native.Nat.{ℕ, ◌<◌, ◌-◌}
 use native.Mathlib.Omega.{arith}
-use borrow.Author.Rules.{rules}
 use Rattle.masks.proofs.inplace.rows_fit.Goals as goal
 
 pub loop-i-init : goal.loop-i-init

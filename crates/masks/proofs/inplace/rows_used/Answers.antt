@@ -1,8 +1,7 @@
 use mathlib.Core.Bool.{Bool, ◌&&◌, and-false}
 use mathlib.Core.Path.{refl, sym, ap, ◌∙◌}
 use native.Mathlib.Omega.{arith}
-use borrow.Author.Rules.{rules}
-use borrow.Author.Tests.{lt-ltb, le-ltb, leb-true, not-true, not-false}
+use borrow.Author.Tests.{lt-ltb, le-ltb, leb-true}
 use lib.Dec.{ltb}
 use Rattle.words.proofs.Tests.{hit, skip, both}
 use Rattle.masks.specs.Bytes.{has_room, masks_in, rest_blank, rows_used}

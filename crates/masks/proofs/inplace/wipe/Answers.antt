@@ -1,5 +1,4 @@
 use mathlib.Core.Path.{refl, sym, ◌∙◌}
-use borrow.Author.Rules.{rules}
 use Rattle.masks.proofs.Moves.{zeros-again}
 use Rattle.masks.proofs.inplace.wipe.Goals as goal
 

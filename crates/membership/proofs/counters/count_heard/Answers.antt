@@ -1,12 +1,9 @@
-use mathlib.Core.List.{◌++◌}
 use mathlib.Core.Path.{◌≡◌, sym, ap, ◌∙◌}
-use Prim.Native.Nat.{◌≤◌, ◌<◌, ◌-◌}
+use Prim.Native.Nat.{◌<◌, ◌-◌}
 use native.Mathlib.Omega.{arith}
-use lib.ListN.{get_or, length, drop}
+use lib.ListN.{get_or, length}
 use borrow.Author.Rules.{rules}
 use Rattle.lists.proofs.Laws.{fill_none, fill_more, fill_end}
-use Rattle.lists.specs.All.{tab}
-use Rattle.words.specs.Bits.{has_bit}
 use Rattle.membership.specs.counters.Counters.{counted, plus}
 use Rattle.membership.proofs.counters.Laws.{none-counted}
 use Rattle.membership.proofs.counters.count_heard.Goals as goal

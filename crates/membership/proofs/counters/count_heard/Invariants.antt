@@ -1,14 +1,10 @@
 use mathlib.Core.List.{◌++◌}
-use mathlib.Core.Path.{◌≡◌, sym, ap, ◌∙◌}
-use Prim.Native.Nat.{◌≤◌, ◌<◌, ◌-◌}
-use native.Mathlib.Omega.{arith}
-use lib.ListN.{get_or, length, drop}
-use borrow.Author.Rules.{rules}
-use Rattle.lists.proofs.Laws.{fill_none, fill_more, fill_end}
+use mathlib.Core.Path.{◌≡◌}
+use Prim.Native.Nat.{◌≤◌, ◌-◌}
+use lib.ListN.{get_or, drop}
 use Rattle.lists.specs.All.{tab}
 use Rattle.words.specs.Bits.{has_bit}
-use Rattle.membership.specs.counters.Counters.{counted, plus}
-use Rattle.membership.proofs.counters.Laws.{none-counted}
+use Rattle.membership.specs.counters.Counters.{plus}
 use Rattle.membership.proofs.counters.count_heard.Given as goal
 
 abbrev pub invariant-loop-i : goal.invariant-loop-i

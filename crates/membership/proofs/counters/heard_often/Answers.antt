@@ -1,9 +1,7 @@
-use mathlib.Core.Logic.{⊎_elim}
-use mathlib.Core.Path.{◌≡◌, refl, sym, ap, ◌∙◌}
-use Prim.Native.Nat.{◌^◌, ℕ, ◌≤◌, ◌-◌}
+use mathlib.Core.Path.{refl, sym, ap, ◌∙◌}
+use Prim.Native.Nat.{◌^◌, ℕ, ◌-◌}
 use native.Mathlib.Omega.{arith}
 use lib.Bits
-use borrow.Author.Rules.{rules}
 use borrow.Author.Tests.{lt-ltb}
 use lib.Dec.{leb}
 use lib.ListN.{get_or}
@@ -33,9 +31,9 @@ loop-i-preserved c =
     let o = sym c.is_often.ensures in (
       omega arith,
       elim c.if-is_often.branch [
-        then-is_often w ↦ w.w-is ∙ w.with-w.ensures ∙ hit _ _ _ (lt-ltb i 32 (omega arith)) ∙ ap (λ (x : ℕ). Bits.bit_or x (2 ^ i)) e
-          ∙ word_more i _ (o ∙ w.if-is_often.true)
-      | else-is_often w ↦ w.w-is ∙ e ∙ word_same i _ (o ∙ w.if-is_often.false)
+        | then-is_often w ↦ w.w-is ∙ w.with-w.ensures ∙ hit _ _ _ (lt-ltb i 32 (omega arith)) ∙ ap (λ (x : ℕ). Bits.bit_or x (2 ^ i)) e
+            ∙ word_more i _ (o ∙ w.if-is_often.true)
+        | else-is_often w ↦ w.w-is ∙ e ∙ word_same i _ (o ∙ w.if-is_often.false)
       ],
     )
 

@@ -1,13 +1,9 @@
 use mathlib.Core.Bool.{cond}
 use mathlib.Core.List.{◌++◌}
-use mathlib.Core.Path.{◌≡◌, ◌∙◌}
-use Prim.Native.Nat.{◌≤◌, ◌<◌, ◌-◌}
-use native.Mathlib.Omega.{arith}
-use lib.ListN.{get_or, length, drop}
-use borrow.Author.Rules.{rules}
-use Rattle.lists.proofs.Laws.{fill_none, fill_more, fill_end}
+use mathlib.Core.Path.{◌≡◌}
+use Prim.Native.Nat.{◌≤◌, ◌-◌}
+use lib.ListN.{get_or, drop}
 use Rattle.lists.specs.All.{tab}
-use Rattle.membership.proofs.counters.Laws.{kept-tab}
 use Rattle.membership.proofs.counters.kept.Given as goal
 
 abbrev pub invariant-loop-i : goal.invariant-loop-i

@@ -1,6 +1,5 @@
 use mathlib.Core.Path.{◌∙◌}
 use native.Mathlib.Omega.{arith}
-use borrow.Author.Rules.{rules}
 use Rattle.membership.proofs.counters.Laws.{left_below, left-top}
 use Rattle.membership.proofs.counters.left.Goals as goal
 

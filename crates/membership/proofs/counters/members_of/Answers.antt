@@ -1,6 +1,5 @@
 use mathlib.Core.Path.{ap, ◌∙◌}
 use Prim.Native.Nat.{ℕ}
-use borrow.Author.Rules.{rules}
 use Rattle.membership.specs.counters.Counters.{with_self, members_of}
 use Rattle.membership.proofs.counters.Laws.{self-with}
 use Rattle.membership.proofs.counters.members_of.Goals as goal

@@ -1,5 +1,4 @@
 use mathlib.Core.Path.{sym, ◌∙◌, refl}
-use borrow.Author.Rules.{rules}
 use borrow.Author.Tests.{lt-ltb, le-ltb}
 use Rattle.words.proofs.Tests.{hit, skip}
 use Rattle.membership.specs.counters.Counters.{with_self}

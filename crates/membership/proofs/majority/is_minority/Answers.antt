@@ -1,6 +1,5 @@
 use mathlib.Core.Path.{ap}
 use mathlib.Core.Bool.{not}
-use borrow.Author.Rules.{rules}
 use Rattle.membership.proofs.majority.is_minority.Goals as goal
 
 pub returns : goal.returns

@@ -1,12 +1,10 @@
 use mathlib.Core.Path.{◌≡◌, refl, sym}
-use mathlib.Core.List.{[], ◌∷◌}
+use mathlib.Core.List.{◌∷◌}
 use Prim.Native.Nat.{ℕ, zero, suc, ◌≤◌, ◌<◌}
 use native.Mathlib.Omega.{arith}
 use native.Mathlib.Decide.{dec_lt}
 use borrow.Author.Rules.{rules}
 use lib.ListN.{length, get_or-eq_default}
-use types.Run.{OneOf}
-use Rattle.words.proofs.Tests.{same_or_not}
 use Rattle.membership.specs.majority.Majority.{sheet, least_count}
 use Rattle.membership.proofs.majority.least_count.Goals as goal
 

@@ -1,11 +1,7 @@
-use mathlib.Core.Path.{◌≡◌}
-use Prim.Native.Nat.{◌≤◌, ◌-◌}
+use Prim.Native.Nat.{◌-◌}
 use native.Mathlib.Omega.{arith}
-use lib.ListN.{get_or}
-use borrow.Author.Rules.{rules}
 use Rattle.lists.proofs.Laws.{all_none, all_more, all_end}
-use Rattle.lists.specs.All.{all_below}
-use Rattle.membership.specs.requests.Requests.{agree, agree_at}
+use Rattle.membership.specs.requests.Requests.{agree}
 use Rattle.membership.proofs.requests.agree.Goals as goal
 
 pub loop-i-init : goal.loop-i-init

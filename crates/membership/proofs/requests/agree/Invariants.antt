@@ -1,11 +1,8 @@
 use mathlib.Core.Path.{◌≡◌}
 use Prim.Native.Nat.{◌≤◌, ◌-◌}
-use native.Mathlib.Omega.{arith}
 use lib.ListN.{get_or}
-use borrow.Author.Rules.{rules}
-use Rattle.lists.proofs.Laws.{all_none, all_more, all_end}
 use Rattle.lists.specs.All.{all_below}
-use Rattle.membership.specs.requests.Requests.{agree, agree_at}
+use Rattle.membership.specs.requests.Requests.{agree_at}
 use Rattle.membership.proofs.requests.agree.Given as goal
 
 abbrev pub invariant-loop-i : goal.invariant-loop-i

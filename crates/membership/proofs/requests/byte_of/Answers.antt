@@ -2,7 +2,6 @@ use mathlib.Core.Path.{refl, sym}
 use Prim.Native.Nat.{◌-◌}
 use borrow.Author.Tests.{lt-ltb, le-ltb}
 use Rattle.words.proofs.Tests.{hit, skip}
-use borrow.Author.Rules.{rules}
 use Rattle.membership.proofs.requests.byte_of.Goals as goal
 
 pub returns-then-i-lt32 : goal.returns-then-i-lt32

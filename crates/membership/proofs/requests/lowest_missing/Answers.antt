@@ -1,7 +1,6 @@
 use mathlib.Core.Path.{◌≡◌, refl, sym, ap, ◌∙◌}
-use Prim.Native.Nat.{ℕ, ◌≤◌, ◌-◌}
+use Prim.Native.Nat.{ℕ, ◌-◌}
 use native.Mathlib.Omega.{arith}
-use borrow.Author.Rules.{rules}
 use Rattle.words.proofs.Tests.{both}
 use Rattle.membership.specs.requests.Requests.{lacks, first_with, lowest_missing}
 use Rattle.membership.proofs.requests.Laws.{first-here, first-behind, first-none}

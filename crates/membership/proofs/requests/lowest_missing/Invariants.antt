@@ -1,10 +1,6 @@
-use mathlib.Core.Path.{◌≡◌, refl, sym, ap, ◌∙◌}
-use Prim.Native.Nat.{ℕ, ◌≤◌, ◌-◌}
-use native.Mathlib.Omega.{arith}
-use borrow.Author.Rules.{rules}
-use Rattle.words.proofs.Tests.{both}
+use mathlib.Core.Path.{◌≡◌}
+use Prim.Native.Nat.{◌≤◌, ◌-◌}
 use Rattle.membership.specs.requests.Requests.{lacks, first_with, lowest_missing}
-use Rattle.membership.proofs.requests.Laws.{first-here, first-behind, first-none}
 use Rattle.membership.proofs.requests.lowest_missing.Given as goal
 
 -- No node before the i-th is missing.

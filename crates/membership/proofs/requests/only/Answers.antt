@@ -1,15 +1,13 @@
 use mathlib.Core.Path.{◌≡◌, refl, ap, ◌∙◌}
-use Prim.Native.Nat.{ℕ, ◌≤◌, ◌-◌, ◌+◌}
+use Prim.Native.Nat.{ℕ, ◌-◌}
 use native.Mathlib.Omega.{arith}
 use mathlib.Core.Bool.{cond}
-use mathlib.Core.List.{◌++◌}
 use lib.Dec.{eqb, ltb}
-use lib.ListN.{length, drop, replicate}
+use lib.ListN.{length, replicate}
 use Rattle.lists.specs.All.{tab}
 use Rattle.lists.proofs.Laws.{fill_none, fill_more, fill_end}
 use Rattle.membership.specs.requests.Requests.{none}
 use Rattle.membership.proofs.requests.Laws.{only-tab}
-use borrow.Author.Rules.{rules}
 use Rattle.membership.proofs.requests.only.Goals as goal
 
 pub loop-k-init : goal.loop-k-init

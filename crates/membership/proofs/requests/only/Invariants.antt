@@ -1,15 +1,11 @@
-use mathlib.Core.Path.{◌≡◌, refl, ap, ◌∙◌}
-use Prim.Native.Nat.{ℕ, ◌≤◌, ◌-◌, ◌+◌}
-use native.Mathlib.Omega.{arith}
+use mathlib.Core.Path.{◌≡◌}
+use Prim.Native.Nat.{◌≤◌, ◌-◌, ◌+◌}
 use mathlib.Core.Bool.{cond}
 use mathlib.Core.List.{◌++◌}
-use lib.Dec.{eqb, ltb}
-use lib.ListN.{length, drop, replicate}
+use lib.Dec.{eqb}
+use lib.ListN.{drop}
 use Rattle.lists.specs.All.{tab}
-use Rattle.lists.proofs.Laws.{fill_none, fill_more, fill_end}
 use Rattle.membership.specs.requests.Requests.{none}
-use Rattle.membership.proofs.requests.Laws.{only-tab}
-use borrow.Author.Rules.{rules}
 use Rattle.membership.proofs.requests.only.Given as goal
 
 abbrev pub invariant-loop-k : goal.invariant-loop-k

@@ -1,10 +1,8 @@
 use mathlib.Core.Bool.{not}
-use mathlib.Core.Logic.{⊎_elim}
-use mathlib.Core.Path.{◌≡◌, refl, ap, ◌∙◌}
-use Prim.Native.Nat.{◌^◌, ℕ, ◌≤◌, ◌-◌}
+use mathlib.Core.Path.{refl, ap, ◌∙◌}
+use Prim.Native.Nat.{◌^◌, ℕ, ◌-◌}
 use native.Mathlib.Omega.{arith}
 use lib.Bits
-use borrow.Author.Rules.{rules}
 use borrow.Author.Tests.{eq-eqb, ne_eqb, lt-ltb}
 use Rattle.words.proofs.Tests.{hit}
 use Rattle.words.proofs.Laws.{word_more, word_same}
@@ -33,9 +31,9 @@ loop-i-preserved c =
     let e = c.loop-i.invariant.1 in (
       omega arith,
       elim c.if-l-i.branch [
-        then-l-i w ↦ w.w-is ∙ w.with-w.ensures ∙ hit _ _ _ (lt-ltb i 32 (omega arith)) ∙ ap (λ (x : ℕ). Bits.bit_or x (2 ^ i)) e
-          ∙ word_more i (has_request l) (ap not (ne_eqb _ _ w.if-l-i.true))
-      | else-l-i w ↦ w.w-is ∙ e ∙ word_same i (has_request l) (ap not (eq-eqb _ _ w.if-l-i.false))
+        | then-l-i w ↦ w.w-is ∙ w.with-w.ensures ∙ hit _ _ _ (lt-ltb i 32 (omega arith)) ∙ ap (λ (x : ℕ). Bits.bit_or x (2 ^ i)) e
+            ∙ word_more i (has_request l) (ap not (ne_eqb _ _ w.if-l-i.true))
+        | else-l-i w ↦ w.w-is ∙ e ∙ word_same i (has_request l) (ap not (eq-eqb _ _ w.if-l-i.false))
       ],
     )
 

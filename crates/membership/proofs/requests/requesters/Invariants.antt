@@ -1,15 +1,8 @@
-use mathlib.Core.Bool.{not}
-use mathlib.Core.Logic.{⊎_elim}
-use mathlib.Core.Path.{◌≡◌, refl, ap, ◌∙◌}
-use Prim.Native.Nat.{◌^◌, ℕ, ◌≤◌, ◌-◌}
-use native.Mathlib.Omega.{arith}
+use mathlib.Core.Path.{◌≡◌}
+use Prim.Native.Nat.{◌≤◌, ◌-◌}
 use lib.Bits
-use borrow.Author.Rules.{rules}
-use borrow.Author.Tests.{eq-eqb, ne_eqb, lt-ltb}
-use Rattle.words.proofs.Tests.{hit}
-use Rattle.words.proofs.Laws.{word_more, word_same}
 use Rattle.words.specs.Bits.{word_of}
-use Rattle.membership.specs.requests.Requests.{requesters, has_request}
+use Rattle.membership.specs.requests.Requests.{has_request}
 use Rattle.membership.proofs.requests.requesters.Given as goal
 
 abbrev pub invariant-loop-i : goal.invariant-loop-i

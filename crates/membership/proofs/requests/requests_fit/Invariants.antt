@@ -1,11 +1,8 @@
 use mathlib.Core.Path.{◌≡◌}
 use Prim.Native.Nat.{◌≤◌, ◌-◌}
-use native.Mathlib.Omega.{arith}
 use lib.ListN.{get_or}
-use borrow.Author.Rules.{rules}
-use Rattle.lists.proofs.Laws.{all_none, all_more, all_end}
 use Rattle.lists.specs.All.{all_below}
-use Rattle.membership.specs.requests.Requests.{request_fits, requests_fit}
+use Rattle.membership.specs.requests.Requests.{request_fits}
 use Rattle.membership.proofs.requests.requests_fit.Given as goal
 
 abbrev pub invariant-loop-i : goal.invariant-loop-i

@@ -3,7 +3,6 @@ use mathlib.Core.Bool.{◌&&◌}
 use Prim.Native.Nat.{ℕ}
 use native.Mathlib.Omega.{arith}
 use Rattle.words.specs.Bits.{is_inside}
-use borrow.Author.Rules.{rules}
 use Rattle.membership.proofs.requests.Laws.{within-apart}
 use Rattle.membership.proofs.requests.requests_within.Goals as goal
 

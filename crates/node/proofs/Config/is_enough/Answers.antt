@@ -1,6 +1,5 @@
 use mathlib.Core.Path.{ap}
 use mathlib.Core.Bool.{Bool, ◌||◌}
-use borrow.Author.Rules.{rules}
 use Rattle.node.specs.Figures.{splits}
 use Rattle.node.proofs.Config.is_enough.Goals as goal
 

@@ -1,6 +1,5 @@
 use mathlib.Core.Path.{ap}
 use mathlib.Core.Bool.{Bool, not, ◌&&◌}
-use borrow.Author.Rules.{rules}
 use Rattle.node.specs.Figures.{splits}
 use Rattle.node.proofs.Config.is_too_few.Goals as goal
 

@@ -3,7 +3,6 @@ use lib.ListN.{replicate}
 use Rattle.node.specs.declared.Phase.TheVariants.{Negotiation}
 use Prim.Native.Nat.{◌-◌}
 use Rattle.node.specs.Begin.{begun}
-use borrow.Author.Rules.{rules}
 use Rattle.node.proofs.Core.begin.Goals as goal
 
 pub returns : goal.returns

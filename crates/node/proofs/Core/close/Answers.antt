@@ -7,7 +7,6 @@ use Rattle.node.specs.Figures.{is_last, successor}
 use mathlib.Core.Bool.{Bool, not, cond, ◌&&◌, ◌||◌}
 use mathlib.Core.Path.{ap, ap₂, ◌∙◌}
 use Prim.Native.Nat.{◌-◌}
-use borrow.Author.Rules.{rules}
 use Rattle.node.proofs.Core.close.Goals as goal
 
 pub returns : goal.returns

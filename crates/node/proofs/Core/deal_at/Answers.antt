@@ -1,5 +1,4 @@
 use mathlib.Core.Path.{◌∙◌}
-use borrow.Author.Rules.{rules}
 use borrow.Author.Tests.{le-leb}
 use Rattle.words.proofs.Tests.{hit, both}
 use Rattle.allotment.specs.InPlace.{next_in}

@@ -2,10 +2,8 @@ use Rattle.node.specs.Inner.{counted_rule}
 use Rattle.node.specs.Close.{level}
 use Rattle.words.specs.Bits.{is_inside}
 use mathlib.Core.Path.{refl, sym, ap, ◌∙◌}
-use borrow.Author.Tests.{not-true, not-false}
 use Rattle.words.proofs.Tests.{hit, skip}
 use Prim.Native.Nat.{◌-◌}
-use borrow.Author.Rules.{rules}
 use Rattle.node.proofs.Core.first_rule.Goals as goal
 
 pub returns-then-not-is_enough : goal.returns-then-not-is_enough

@@ -1,6 +1,5 @@
 use mathlib.Core.Bool.{Bool, ◌&&◌, ◌||◌}
 use mathlib.Core.Path.{◌≡◌, sym, ap, ◌∙◌}
-use borrow.Author.Rules.{rules}
 use Rattle.node.specs.Figures.{is_last}
 use Rattle.node.specs.Close.{determining, due}
 use Rattle.node.specs.Core.{bare}

@@ -4,7 +4,6 @@ use lib.Bits
 use mathlib.Core.Path.{refl, sym, ap, ◌∙◌}
 use Rattle.words.proofs.Tests.{hit, skip}
 use Prim.Native.Nat.{◌-◌}
-use borrow.Author.Rules.{rules}
 use Rattle.node.proofs.Core.hear.Goals as goal
 
 pub join-self-requires : goal.join-self-requires

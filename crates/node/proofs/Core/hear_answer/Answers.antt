@@ -1,10 +1,9 @@
 use Rattle.node.specs.Negotiation.{hear_answer}
 use mathlib.Core.Bool.{not}
 use mathlib.Core.Path.{refl, sym, ap, ◌∙◌}
-use borrow.Author.Tests.{eq-eqb, ne_eqb, not-true, not-false}
+use borrow.Author.Tests.{eq-eqb, ne_eqb}
 use Rattle.words.proofs.Tests.{both, hit, skip}
 use Prim.Native.Nat.{◌-◌}
-use borrow.Author.Rules.{rules}
 use Rattle.node.proofs.Core.hear_answer.Goals as goal
 
 pub returns-then-not-is_negotiation : goal.returns-then-not-is_negotiation

@@ -1,6 +1,5 @@
 use mathlib.Core.Bool.{Bool, ◌&&◌, ◌||◌}
 use mathlib.Core.Path.{ap}
-use borrow.Author.Rules.{rules}
 use Rattle.node.proofs.Core.is_due.Goals as goal
 
 pub returns : goal.returns

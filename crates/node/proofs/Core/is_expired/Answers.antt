@@ -3,10 +3,8 @@ use Rattle.node.specs.Core.{bare}
 use Rattle.node.specs.End.{expires}
 use mathlib.Core.Bool.{Bool, ◌&&◌}
 use mathlib.Core.Path.{◌≡◌, sym, ap, ◌∙◌}
-use borrow.Author.Tests.{not-true, not-false}
 use Rattle.node.specs.Figures.{too_few}
 use Prim.Native.Nat.{◌-◌}
-use borrow.Author.Rules.{rules}
 use Rattle.node.proofs.Core.is_expired.Goals as goal
 
 pub returns-then-not-last : goal.returns-then-not-last

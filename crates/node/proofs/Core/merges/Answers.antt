@@ -1,7 +1,6 @@
 use Rattle.node.specs.Negotiation.{merges}
 use Rattle.words.proofs.Tests.{both}
 use Prim.Native.Nat.{◌-◌}
-use borrow.Author.Rules.{rules}
 use Rattle.node.proofs.Core.merges.Goals as goal
 
 pub returns : goal.returns

@@ -3,7 +3,6 @@ use borrow.Author.Tests.{leb-false}
 use Rattle.words.proofs.Tests.{skip}
 use Prim.Native.Nat.{◌-◌, ◌+◌}
 use native.Mathlib.Omega.{arith}
-use borrow.Author.Rules.{rules}
 use Rattle.node.proofs.Core.place_after.Goals as goal
 
 pub overflow_add-result : goal.overflow_add-result

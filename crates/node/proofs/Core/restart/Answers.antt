@@ -1,6 +1,5 @@
 use mathlib.Core.Bool.{false}
 use lib.ListN.{replicate}
-use borrow.Author.Rules.{rules}
 use Rattle.node.specs.Begin.{waiting}
 use Rattle.node.specs.declared.Phase.TheVariants.{Waiting}
 use Rattle.node.proofs.Core.restart.Goals as goal

@@ -9,7 +9,6 @@ use lib.ListN.{replicate}
 use mathlib.Core.Bool.{Bool, not, cond, ◌&&◌}
 use mathlib.Core.Path.{ap, ap₂, ◌∙◌}
 use Prim.Native.Nat.{◌-◌, ◌+◌}
-use borrow.Author.Rules.{rules}
 use Rattle.node.proofs.Core.round_ended.Goals as goal
 
 pub place_after-place-requires : goal.place_after-place-requires

@@ -3,7 +3,6 @@ use Rattle.node.specs.Distribution.{taken_node, taken_epoch}
 use lib.Dec.{eqb}
 use mathlib.Core.Bool.{◌&&◌}
 use Prim.Native.Nat.{◌-◌}
-use borrow.Author.Rules.{rules}
 use Rattle.node.proofs.Core.take.Goals as goal
 
 pub returns : goal.returns

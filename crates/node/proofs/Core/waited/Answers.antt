@@ -6,7 +6,6 @@ use Rattle.node.specs.Begin.{begun}
 use mathlib.Core.Bool.{Bool, true, cond}
 use mathlib.Core.Path.{sym, ap, ◌∙◌}
 use Prim.Native.Nat.{◌-◌}
-use borrow.Author.Rules.{rules}
 use Rattle.node.proofs.Core.waited.Goals as goal
 
 pub returns-then-is_last : goal.returns-then-is_last

@@ -1,7 +1,6 @@
 use mathlib.Core.List.{List}
 use mathlib.Core.Path.{◌≡◌, refl, sym, ap, ◌∙◌}
 use Prim.Native.Nat.{ℕ}
-use borrow.Author.Rules.{rules}
 use Rattle.masks.specs.Bytes.{cleared}
 use Rattle.node.specs.InPlace.{behind, dropped_in}
 use Rattle.node.specs.declared.Move.{Move}

@@ -1,7 +1,6 @@
 use Rattle.node.specs.Negotiation.{joined}
 use lib.Bits
 use Prim.Native.Nat.{◌-◌}
-use borrow.Author.Rules.{rules}
 use Rattle.node.proofs.Round.join.Goals as goal
 
 pub returns : goal.returns

@@ -1,6 +1,5 @@
 use Rattle.node.specs.Negotiation.{noted}
 use lib.Bits
-use Prim.Native.Nat.{◌-◌}
 use Rattle.node.proofs.Round.note.Goals as goal
 
 pub returns : goal.returns

@@ -1,6 +1,5 @@
 use mathlib.Core.Bool.{Bool, not, ◌||◌}
 use mathlib.Core.Path.{ap₂}
-use borrow.Author.Rules.{rules}
 use Rattle.words.proofs.Tests.{both}
 use Rattle.node.specs.Figures.{flags_ok}
 use Rattle.node.proofs.Setup.flags_ok.Goals as goal

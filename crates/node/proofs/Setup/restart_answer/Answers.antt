@@ -1,7 +1,6 @@
 use mathlib.Core.Bool.{Bool, cond, ◌&&◌}
 use mathlib.Core.Path.{ap, ◌∙◌}
 use lib.Dec.{ltb}
-use borrow.Author.Rules.{rules}
 use Rattle.node.specs.Begin.{restart_answer}
 use Rattle.node.specs.Figures.{config_ok, is_node}
 use Rattle.node.specs.declared.Answer.TheVariants.{Done, NoSuchNode, OutOfRange}

@@ -1,4 +1,3 @@
-use borrow.Author.Rules.{rules}
 use Rattle.node.proofs.close.no_round.Goals as goal
 
 pub returns : goal.returns

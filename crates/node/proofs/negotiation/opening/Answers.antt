@@ -1,4 +1,3 @@
-use borrow.Author.Rules.{rules}
 use Rattle.node.specs.Negotiation.{opened}
 use Rattle.node.proofs.negotiation.opening.Goals as goal
 

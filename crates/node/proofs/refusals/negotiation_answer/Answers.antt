@@ -1,7 +1,6 @@
 use mathlib.Core.Path.{refl, sym, ◌∙◌}
 use Rattle.words.proofs.Tests.{hit, skip}
 use Prim.Native.Nat.{◌-◌}
-use borrow.Author.Rules.{rules}
 use Rattle.node.proofs.refusals.negotiation_answer.Goals as goal
 
 pub returns-then-is_negotiation : goal.returns-then-is_negotiation

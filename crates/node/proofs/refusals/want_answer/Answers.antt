@@ -1,5 +1,4 @@
 use mathlib.Core.Path.{refl, sym, ◌∙◌}
-use borrow.Author.Rules.{rules}
 use Rattle.words.proofs.Tests.{hit, skip}
 use Rattle.node.specs.Steps.{want_answer}
 use Rattle.node.proofs.refusals.want_answer.Goals as goal

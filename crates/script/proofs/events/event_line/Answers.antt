@@ -2,7 +2,6 @@ use lib.Seq.{length-take-le}
 use mathlib.Core.Path.{ap₂, sym, ◌∙◌}
 use Rattle.script.specs.events.Events.{made}
 use Rattle.script.proofs.events.Laws.{event-none, event-is}
-use borrow.Author.Rules.{rules}
 use Rattle.script.proofs.events.event_line.Goals as goal
 
 pub returns-then-e-s : goal.returns-then-e-s

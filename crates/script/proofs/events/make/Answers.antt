@@ -1,4 +1,3 @@
-use borrow.Author.Rules.{rules}
 use Rattle.script.proofs.events.make.Goals as goal
 
 pub returns-in-Pair : goal.returns-in-Pair

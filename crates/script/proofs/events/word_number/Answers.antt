@@ -1,6 +1,5 @@
 -- The words are compared from the last to the first: the number of the first that fits stands, as in the definition.
 use mathlib.Core.Path.{refl}
-use borrow.Author.Rules.{rules}
 use Rattle.script.specs.events.Events.{number_from}
 use Rattle.script.proofs.events.Laws.{chosen}
 use Rattle.script.proofs.events.word_number.Goals as goal

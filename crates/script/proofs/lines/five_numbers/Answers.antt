@@ -4,7 +4,6 @@ use Rattle.script.specs.lines.Fields.{with5, four_of, five_of, three_of}
 use Rattle.script.proofs.lines.Fields.{five-none, five-is}
 use lib.Seq.{length-take-le}
 use Rattle.text.proofs.Pieces.{last-piece}
-use borrow.Author.Rules.{rules}
 use Rattle.script.proofs.lines.five_numbers.Goals as goal
 
 pub returns-then-e-s : goal.returns-then-e-s

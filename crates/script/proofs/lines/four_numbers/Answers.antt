@@ -4,7 +4,6 @@ use Rattle.script.specs.lines.Fields.{with4, three_of, four_of}
 use Rattle.script.proofs.lines.Fields.{four-none, four_is}
 use lib.Seq.{length-take-le}
 use Rattle.text.proofs.Pieces.{last-piece}
-use borrow.Author.Rules.{rules}
 use Rattle.script.proofs.lines.four_numbers.Goals as goal
 
 pub returns-then-e-s : goal.returns-then-e-s

@@ -5,7 +5,7 @@ use Rattle.text.proofs.Pieces.{before_here, before_more, behind-is}
 use Rattle.script.proofs.lines.Lines.{none-there}
 use borrow.Author.Rules.{rules}
 use mathlib.Core.Path.{◌≡◌, ap}
-use Prim.Native.Nat.{ℕ, ◌≤◌, ◌<◌, ◌-◌, ◌+◌}
+use Prim.Native.Nat.{ℕ, ◌<◌, ◌-◌, ◌+◌}
 use native.Mathlib.Omega.{arith}
 use Rattle.script.proofs.lines.line_end.Goals as goal
 

@@ -1,4 +1,3 @@
-use borrow.Author.Rules.{rules}
 use Rattle.script.proofs.lines.pair.Goals as goal
 
 pub returns-in-Value-b : goal.returns-in-Value-b

@@ -1,4 +1,3 @@
-use borrow.Author.Rules.{rules}
 use Rattle.script.proofs.lines.quad.Goals as goal
 
 pub returns-in-Triple : goal.returns-in-Triple

@@ -1,5 +1,4 @@
 use mathlib.Core.Path.{sym, ap₂}
-use borrow.Author.Rules.{rules}
 use Rattle.script.specs.lines.Fields.{with5}
 use Rattle.script.proofs.lines.quint.Goals as goal
 

@@ -4,7 +4,6 @@ use Rattle.script.specs.lines.Fields.{with3, two_of, three_of}
 use Rattle.script.proofs.lines.Fields.{with_none, three-is}
 use lib.Seq.{length-take-le}
 use Rattle.text.proofs.Pieces.{last-piece}
-use borrow.Author.Rules.{rules}
 use Rattle.script.proofs.lines.three_numbers.Goals as goal
 
 pub returns-then-e-s : goal.returns-then-e-s

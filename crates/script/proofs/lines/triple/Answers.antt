@@ -1,4 +1,3 @@
-use borrow.Author.Rules.{rules}
 use Rattle.script.proofs.lines.triple.Goals as goal
 
 pub returns-in-Pair : goal.returns-in-Pair

@@ -3,7 +3,6 @@ use Rattle.script.specs.lines.Fields.{both, two_of}
 use Rattle.script.proofs.lines.Fields.{two_is}
 use lib.Seq.{length-take-le}
 use Rattle.text.proofs.Pieces.{last-piece}
-use borrow.Author.Rules.{rules}
 use Rattle.script.proofs.lines.two_numbers.Goals as goal
 
 pub returns-then-e-s : goal.returns-then-e-s

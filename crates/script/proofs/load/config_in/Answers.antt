@@ -1,6 +1,5 @@
 use mathlib.Core.Path.{sym, ap, ◌∙◌}
 use Rattle.script.specs.load.Opening.{config_of_five}
-use borrow.Author.Rules.{rules}
 use Rattle.script.proofs.load.config_in.Goals as goal
 
 pub returns-in-NotFive : goal.returns-in-NotFive

@@ -4,7 +4,6 @@ use Rattle.script.proofs.load.Laws.{names-wrong, names-right, reads-refused, rea
 use Rattle.script.specs.load.Inner.{place_in}
 use mathlib.Core.Path.{refl, ap}
 use native.Mathlib.Omega.{arith}
-use borrow.Author.Rules.{rules}
 use Rattle.script.proofs.load.from_events.Goals as goal
 
 pub returns-in-Wrong : goal.returns-in-Wrong

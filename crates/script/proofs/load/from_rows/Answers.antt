@@ -1,7 +1,7 @@
 use lib.ListN.{drop}
 use Rattle.text.specs.Read.{split}
 use Rattle.node.specs.declared.Answer.TheVariants.{BadNames, OutOfRange}
-use Rattle.script.specs.load.Opening.{empty_table, table_lines}
+use Rattle.script.specs.load.Opening.{table_lines}
 use Rattle.script.specs.load.Inner.{from_events}
 use Rattle.script.proofs.lines.Lines.{whole}
 use Rattle.script.proofs.load.Laws.{reads-refused, reads_same, rows_none, rows-missing, rows-open, rows-bad, rows-good, then-refused}
@@ -10,7 +10,6 @@ use Rattle.site.specs.declared.Table.{Table}
 use mathlib.Core.Path.{◌≡◌, refl, sym, ap, ◌∙◌}
 use Prim.Native.Nat.{◌≤◌, ◌-◌, ◌+◌}
 use native.Mathlib.Omega.{arith}
-use borrow.Author.Rules.{rules}
 use Rattle.script.proofs.load.from_rows.Goals as goal
 
 pub loop-i-init : goal.loop-i-init

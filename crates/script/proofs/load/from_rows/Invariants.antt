@@ -1,16 +1,8 @@
 use lib.ListN.{drop}
 use Rattle.text.specs.Read.{split}
-use Rattle.node.specs.declared.Answer.TheVariants.{BadNames, OutOfRange}
 use Rattle.script.specs.load.Opening.{empty_table, table_lines}
-use Rattle.script.specs.load.Inner.{from_events}
-use Rattle.script.proofs.lines.Lines.{whole}
-use Rattle.script.proofs.load.Laws.{reads-refused, reads_same, rows_none, rows-missing, rows-open, rows-bad, rows-good, then-refused}
-use Rattle.script.proofs.load.Laws.{then-got}
-use Rattle.site.specs.declared.Table.{Table}
-use mathlib.Core.Path.{◌≡◌, refl, sym, ap, ◌∙◌}
+use mathlib.Core.Path.{◌≡◌}
 use Prim.Native.Nat.{◌≤◌, ◌-◌, ◌+◌}
-use native.Mathlib.Omega.{arith}
-use borrow.Author.Rules.{rules}
 use Rattle.script.proofs.load.from_rows.Given as goal
 
 -- The rows still to come, read into the table so far, come to what all the rows come to; each way out of the loop is a law of `table_lines`

@@ -13,7 +13,6 @@ use Rattle.script.proofs.load.Laws.{reads-refused, reads_same, reads-config, the
 use mathlib.Core.Path.{◌≡◌, refl, sym, ap, ◌∙◌}
 use native.Mathlib.Omega.{arith}
 use Rattle.node.specs.Figures.{no_config}
-use borrow.Author.Rules.{rules}
 use Rattle.script.proofs.load.from_settings.Goals as goal
 
 pub slice_bounds-five_numbers-count : goal.slice_bounds-five_numbers-count

@@ -3,7 +3,6 @@ use Rattle.script.specs.load.Opening.{table_names}
 use Rattle.script.specs.load.Inner.{from_rows}
 use Rattle.script.proofs.load.Laws.{names-wrong, names-right, reads-refused, reads_same, then-refused, then-got}
 use mathlib.Core.Path.{refl}
-use borrow.Author.Rules.{rules}
 use Rattle.script.proofs.load.from_table.Goals as goal
 
 -- By the answer to the names line: a refusal of line 3, or what `from_rows` answers behind it.

@@ -4,7 +4,6 @@ use Rattle.script.proofs.lines.Lines.{whole, on_none, on-open}
 use Rattle.script.proofs.load.Laws.{names-whole}
 use mathlib.Core.Path.{sym, ◌∙◌}
 use native.Mathlib.Omega.{arith}
-use borrow.Author.Rules.{rules}
 use Rattle.script.proofs.load.names_line.Goals as goal
 
 pub slice_bounds-equal-count : goal.slice_bounds-equal-count

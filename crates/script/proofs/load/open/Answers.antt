@@ -7,7 +7,6 @@ use mathlib.Core.List.{List}
 use mathlib.Core.Path.{refl, ap, ◌∙◌}
 use Prim.Native.Nat.{ℕ}
 use Rattle.node.specs.declared.Config.{Config}
-use borrow.Author.Rules.{rules}
 use Rattle.script.proofs.load.open.Goals as goal
 
 -- the lines behind the settings' names

@@ -1,5 +1,4 @@
 use borrow.Author.Tests.{eq-eqb, ne_eqb, le-leb, lt-leb}
-use borrow.Author.Rules.{rules}
 use Rattle.allotment.specs.Allotment.{top_request}
 use Rattle.script.proofs.load.read_row.Goals as goal
 

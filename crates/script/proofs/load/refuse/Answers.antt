@@ -1,6 +1,5 @@
 use Rattle.site.specs.declared.Table.{Table}
 use mathlib.Core.Path.{ap}
-use borrow.Author.Rules.{rules}
 use Rattle.script.proofs.load.refuse.Goals as goal
 
 pub returns : goal.returns

@@ -1,7 +1,6 @@
 use mathlib.Core.Path.{ap}
 use lib.Dec.{leb}
 use Rattle.site.specs.Counts.{top_sent}
-use borrow.Author.Rules.{rules}
 use Rattle.site.proofs.SiteHeader.is_full.Goals as goal
 
 pub returns : goal.returns

@@ -1,11 +1,9 @@
 use mathlib.Core.Path.{◌≡◌, refl, ap, ◌∙◌}
-use Prim.Native.Nat.{ℕ, ◌≤◌, ◌-◌, ◌+◌, ◌*◌}
+use Prim.Native.Nat.{ℕ, ◌-◌, ◌+◌}
 use native.Mathlib.Omega.{arith}
-use mathlib.Core.List.{◌++◌}
 use lib.Dec.{ltb}
-use lib.ListN.{length, drop, get_or}
+use lib.ListN.{get_or}
 use Rattle.words.specs.Bits.{digit}
-use Rattle.lists.specs.All.{tab}
 use Rattle.lists.proofs.Laws.{fill_none, fill_more, fill_end}
 use Rattle.tally.specs.Claims.{sum as summed}
 use Rattle.tally.specs.Counting.{slots_at, held_at, added_by}

@@ -1,17 +1,12 @@
-use mathlib.Core.Path.{◌≡◌, refl, ap, ◌∙◌}
-use Prim.Native.Nat.{ℕ, ◌≤◌, ◌-◌, ◌+◌, ◌*◌}
-use native.Mathlib.Omega.{arith}
+use mathlib.Core.Path.{◌≡◌}
+use Prim.Native.Nat.{◌≤◌, ◌-◌, ◌+◌, ◌*◌}
 use mathlib.Core.List.{◌++◌}
 use lib.Dec.{ltb}
 use lib.ListN.{length, drop, get_or}
 use Rattle.words.specs.Bits.{digit}
 use Rattle.lists.specs.All.{tab}
-use Rattle.lists.proofs.Laws.{fill_none, fill_more, fill_end}
 use Rattle.tally.specs.Claims.{sum as summed}
-use Rattle.tally.specs.Counting.{slots_at, held_at, added_by}
-use Rattle.tally.proofs.Sums.{digit-le, sum-none, sum_more}
-use Rattle.tally.proofs.Valid.{valid, slots-most, total-most}
-use borrow.Author.Rules.{rules}
+use Rattle.tally.specs.Counting.{slots_at, held_at}
 use Rattle.tally.proofs.Tally.added.Given as goal
 
 abbrev pub invariant-loop-i : goal.invariant-loop-i

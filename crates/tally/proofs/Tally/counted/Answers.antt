@@ -4,7 +4,6 @@ use mathlib.Core.Bool.{Bool, true, false, not, ◌&&◌}
 use Rattle.words.proofs.Tests.{hit, skip, both, and_left, and_right}
 use Rattle.tally.specs.Counting.{tally_ok, tally_full, counted_by}
 use Rattle.tally.proofs.Valid.{valid, not_full}
-use borrow.Author.Rules.{rules}
 use Rattle.tally.proofs.Tally.counted.Goals as goal
 use Rattle.tally.proofs.Tally.counted.Goals.{After-is_full}
 

@@ -3,7 +3,6 @@ use mathlib.Core.Bool.{◌&&◌}
 use mathlib.Core.Path.{ap₂}
 use lib.Dec.{leb}
 use Rattle.tally.specs.Counting.{held_at}
-use borrow.Author.Rules.{rules}
 use Rattle.tally.proofs.Tally.entry_ok.Goals as goal
 
 pub returns : goal.returns

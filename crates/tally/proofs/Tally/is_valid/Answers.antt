@@ -1,15 +1,12 @@
-use mathlib.Core.Path.{◌≡◌, sym}
-use Prim.Native.Nat.{◌≤◌, ◌-◌, ◌*◌}
+use mathlib.Core.Path.{sym}
+use Prim.Native.Nat.{◌-◌}
 use native.Mathlib.Omega.{arith}
-use Rattle.lists.specs.All.{all_below}
 use Rattle.lists.proofs.Laws.{all_none, all_more, all_end}
-use Rattle.tally.specs.Claims.{sum as summed}
-use Rattle.tally.specs.Counting.{slots_at, tally_entry_ok, tally_ok}
+use Rattle.tally.specs.Counting.{tally_ok}
 use Rattle.tally.proofs.Sums.{sum-none, sum_more, sum-end}
 use mathlib.Core.Bool.{Bool, ◌&&◌}
 use mathlib.Core.Path.{ap₂}
 use lib.Dec.{eqb, leb}
-use borrow.Author.Rules.{rules}
 use Rattle.tally.proofs.Tally.is_valid.Goals as goal
 
 pub loop-i-init : goal.loop-i-init

@@ -1,7 +1,6 @@
-use mathlib.Core.Path.{◌≡◌, ap}
-use Prim.Native.Nat.{ℕ, min}
+use mathlib.Core.Path.{◌≡◌}
+use Prim.Native.Nat.{min}
 use native.Mathlib.Omega.{arith}
-use Rattle.windows.specs.declared.Windows.{Windows}
 use Rattle.windows.proofs.Windows.of.Goals as goal
 
 pub returns-then-windows-lt65 : goal.returns-then-windows-lt65
