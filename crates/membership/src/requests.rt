@@ -1,7 +1,7 @@
 // Requests by node: 32 entries, the request or 255 for none.
 ghost use Rattle.std.specs.Prelude.{◌≡◌, cond, ◌-◌, eqb, ltb};
 ghost use Rattle.membership.specs.requests.Requests.{none, requesters, no_requests, only, entry_of, first_known, union, agree_at, agree};
-ghost use Rattle.membership.specs.requests.Requests.{request_fits, requests_fit, requests_within, lowest_missing};
+ghost use Rattle.membership.specs.requests.Requests.{request_within, requests_within, lowest_missing};
 
 // The entry of a node without a request.
 pub const NONE: u8 = 255;
@@ -106,22 +106,10 @@ pub fn agree(a: [u8; 32], b: [u8; 32]) -> bool
     ok
 }
 
-fn request_fits(x: u8) -> bool
-    ensures { result ≡ request_fits x }
+fn request_within(x: u8, flag: bool) -> bool
+    ensures { result ≡ request_within x flag }
 {
-    (x == NONE) | (x <= allotment::TOP_REQUEST)
-}
-
-// Whether each entry is a request in range, or none.
-pub fn requests_fit(l: [u8; 32]) -> bool
-    ensures { result ≡ requests_fit l }
-{
-    let mut ok = true;
-    for i in 0..32usize {
-        let one = request_fits(l[i]);
-        ok = ok & one;
-    }
-    ok
+    (x == NONE) | ((x <= allotment::TOP_REQUEST) & flag)
 }
 
 // Whether requests stand only for the nodes of a set. By the set of those who have one: a test of each entry with its node's flag takes
@@ -130,8 +118,12 @@ pub fn requests_within(l: [u8; 32], flags: u32) -> bool
     ensures { result ≡ requests_within l flags }
 {
     let from = requesters(l);
-    let fit = requests_fit(l);
-    fit & words::inside(from, flags)
+    let mut ok = words::inside(from, flags);
+    for i in 0..32usize {
+        let one = request_within(l[i], true);
+        ok = ok & one;
+    }
+    ok
 }
 
 // The lowest node of a set that has no request; 0 for none.

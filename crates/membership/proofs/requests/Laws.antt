@@ -14,16 +14,16 @@ use lib.ListN.{length, get_or, set, length-set, get_or-replicate}
 use lib.Pow.{pow-lt}
 use lib.Seq.{get_or-set_same, get_or-set_other, set_out, ext_get_or}
 use borrow.Author.Tests.{eq-eqb, ne_eqb, eqb-true, eqb-false, le-leb, ltb-true, ltb-false, not-true}
-use Rattle.lists.proofs.Laws.{all-at, all-make, get_d-tab, length-tab}
+use Rattle.lists.proofs.Laws.{all-at, all-make, all_none, all_more, get_d-tab, length-tab}
 use Rattle.words.proofs.Tests.{or-front, or-back, or-rest, only_if, same_or_not, hit, skip, and_left, and_right, both}
 use Rattle.words.proofs.Laws.{has_bit-or, has_bit-out, has_bit-word_of, word_of-lt, word_of-below, has_bit-power, same_word}
 use Rattle.words.specs.Bits.{has_bit, is_in, is_inside}
 use Rattle.masks.proofs.Taken.{iff}
-use Rattle.lists.specs.All.{tab}
+use Rattle.lists.specs.All.{all_below, tab}
 use Rattle.allotment.specs.Allotment.{top_request}
 use Rattle.membership.specs.requests.Requests.{none, has_request, requesters, no_requests, only, entry_of, first_known, union, agree_at}
 use Rattle.membership.specs.requests.Requests.{agree}
-use Rattle.membership.specs.requests.Requests.{request_fits, requests_fit, request_within, requests_within, first_with}
+use Rattle.membership.specs.requests.Requests.{request_within, requests_within, first_with}
 
 -- who has a request
 pub requesters-has : (l : List ℕ) (i : ℕ) → i < 32 → has_bit (requesters l) i ≡ has_request l i
@@ -123,21 +123,30 @@ asked l w h i k p = or-rest (eqb (get_or l i 0) none) _ (within-at l w h i k) (n
 pub within-sub : (l : List ℕ) (w : ℕ) → requests_within l w ≡ true → (i : ℕ) → i < 32 → has_bit (requesters l) i ≡ true → has_bit w i ≡ true
 within-sub l w h i k p = and_right (leb (get_or l i 0) top_request) _ (asked l w h i k p)
 
--- it is the same to ask that each entry is in range and that whoever has a request is in the set
-pub within-apart : (l : List ℕ) (w : ℕ) → w < 2 ^ 32 → (requests_fit l && is_inside (requesters l) w) ≡ requests_within l w
+-- no request, or one within the range of requests
+abbrev pub request_fits : ℕ → Bool
+request_fits x = request_within x true
+
+-- each entry is one of these
+unfoldable pub requests_fit : List ℕ → Bool
+requests_fit l = all_below 32 (λ i. request_fits (get_or l i 0))
+
+-- it is the same to ask that whoever has a request is in the set and that each entry is in range
+pub within-apart : (l : List ℕ) (w : ℕ) → w < 2 ^ 32 → (is_inside (requesters l) w && requests_fit l) ≡ requests_within l w
 unfolding requests_fit
-within-apart l w h = iff (requests_fit l && is_inside (requesters l) w) (requests_within l w) (λ e. within-make l w (λ i k. one i k e))
-    (λ e. both (all-make 32 (λ i. request_fits (get_or l i 0)) (λ i k. fits (get_or l i 0) (has_bit w i) (within-at l w e i k))) (inside e))
+within-apart l w h = iff (is_inside (requesters l) w && requests_fit l) (requests_within l w) (λ e. within-make l w (λ i k. one i k e))
+    (λ e. both (inside e) (all-make 32 (λ i. request_fits (get_or l i 0)) (λ i k. fits (get_or l i 0) (has_bit w i) (within-at l w e i k))))
   where
-    one : (i : ℕ) → i < 32 → (requests_fit l && is_inside (requesters l) w) ≡ true → request_within (get_or l i 0) (has_bit w i) ≡ true
+    one : (i : ℕ) → i < 32 → (is_inside (requesters l) w && requests_fit l) ≡ true → request_within (get_or l i 0) (has_bit w i) ≡ true
     one i k e = go (eqb (get_or l i 0) none) refl
       where
         go : (t : Bool) → eqb (get_or l i 0) none ≡ t → request_within (get_or l i 0) (has_bit w i) ≡ true
         go true f = or-front _ _ f
         go false f =
+            let r : request_fits (get_or l i 0) ≡ true = all-at 32 (λ i. request_fits (get_or l i 0)) (and_right (is_inside (requesters l) w) _ e) i k in
             let x : leb (get_or l i 0) top_request ≡ true =
-            or-rest (eqb (get_or l i 0) none) _ (all-at 32 (λ i. request_fits (get_or l i 0)) (and_left (requests_fit l) _ e) i k) f in
-            let y : Bits.bit_or (requesters l) w ≡ w = eqb-true _ _ (and_right (requests_fit l) _ e) in
+            and_left (leb (get_or l i 0) top_request) true (or-rest (eqb (get_or l i 0) none) _ r f) in
+            let y : Bits.bit_or (requesters l) w ≡ w = eqb-true _ _ (and_left (is_inside (requesters l) w) (requests_fit l) e) in
             let z : has_bit w i ≡ true = ap (λ (v : ℕ). has_bit v i) (sym y) ∙ has_bit-or (requesters l) w i
             ∙ or-front _ (has_bit w i) (requesters-has l i k ∙ ap not f) in
             or-back (eqb (get_or l i 0) none) _ (both x z)
@@ -147,7 +156,7 @@ within-apart l w h = iff (requests_fit l && is_inside (requesters l) w) (request
       where
         go : (b : Bool) → eqb x none ≡ b → request_fits x ≡ true
         go true f = or-front _ _ f
-        go false f = or-back (eqb x none) _ (and_left (leb x top_request) t (or-rest (eqb x none) _ e f))
+        go false f = or-back (eqb x none) _ (both (and_left (leb x top_request) t (or-rest (eqb x none) _ e f)) refl)
 
     absorbed : (a b : Bool) → (a ≡ true → b ≡ true) → (a || b) ≡ b
     absorbed true b f = sym (f refl)
@@ -157,6 +166,15 @@ within-apart l w h = iff (requests_fit l && is_inside (requesters l) w) (request
     inside e = eq-eqb (Bits.bit_or (requesters l) w) w
         (same_word 32 (Bits.bit_or (requesters l) w) w (or_lt 32 _ _ (requesters-lt l) h) h
         (λ i k. has_bit-or (requesters l) w i ∙ absorbed (has_bit (requesters l) i) (has_bit w i) (within-sub l w e i k)))
+
+-- the test of all entries, behind the test of the set: before the first, and a turn
+pub within-none : (p : ℕ → Bool) (s t : Bool) → t ≡ s → t ≡ (s && all_below 0 p)
+within-none p true t e = e ∙ all_none p
+within-none p false t e = e
+
+pub within-more : (p : ℕ → Bool) (n : ℕ) (s t u : Bool) → t ≡ (s && all_below n p) → u ≡ p n → (t && u) ≡ (s && all_below (n + 1) p)
+within-more p n true t u e f = all_more p n t u e f
+within-more p n false t u e f = ap (λ (x : Bool). x && u) e
 
 -- the requesters are among the first n nodes where the set is
 pub requesters-below : (l : List ℕ) (w n : ℕ) → requests_within l w ≡ true → w < 2 ^ n → n ≤ 32 → requesters l < 2 ^ n

@@ -46,14 +46,6 @@ agree_at x y = eqb x none || (eqb y none || eqb x y)
 unfoldable pub agree : List ℕ → List ℕ → Bool
 agree a b = all_below 32 (λ i. agree_at (get_or a i 0) (get_or b i 0))
 
--- no request, or one within the range of requests
-abbrev pub request_fits : ℕ → Bool
-request_fits x = eqb x none || leb x top_request
-
--- each entry is one of these
-unfoldable pub requests_fit : List ℕ → Bool
-requests_fit l = all_below 32 (λ i. request_fits (get_or l i 0))
-
 -- no request, or one within the range of requests of a node whose flag is set
 abbrev pub request_within : ℕ → Bool → Bool
 request_within x flag = eqb x none || (leb x top_request && flag)
