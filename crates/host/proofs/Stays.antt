@@ -27,16 +27,16 @@ use Rattle.node.specs.declared.Answer.TheVariants.{Done, OutOfRange}
 use Rattle.node.specs.Model.{Node}
 use Rattle.node.specs.declared.Setup.{Setup}
 use Rattle.range.proofs.Keeps.{PacketRanges, keeps-start, keeps-restart, keeps-hear, keeps-close, keeps-take, keeps-end, keeps-want}
-use Rattle.range.proofs.Lengths.{Lengths, long-start, long-restart, long-hear, long-close, long-take, long-end, long-want}
+use Rattle.range.proofs.Lengths.{Lengths, long-start, long-restart, long-close, long-end}
 use Rattle.node.proofs.Answers.{both-done, done-is, test-passed}
 use Rattle.wire.specs.Layout.{packet_size, schedule_size, packet_in, schedule_in}
 use Rattle.wire.specs.Reads.{packet_ok, packet_answer, versioned_ok, schedule_answer}
 use Rattle.wire.proofs.Laws.{keeps, read-accepted}
 use Rattle.area.specs.Area.{decoded, encoded, valid}
 use Rattle.host.specs.Calls.{and_then, is_node_area, is_sized, unless_refused, beginning, after_begin, restarting, after_restart}
-use Rattle.host.specs.Calls.{heard_answer, hearing_of, after_hear, room_answer, ground_size, close_room, closed_answer, closing_of}
+use Rattle.host.specs.Calls.{heard_answer, hearing_of, room_answer, ground_size, close_room, closed_answer, closing_of}
 use Rattle.host.specs.Calls.{after_close}
-use Rattle.host.specs.Calls.{taken_answer, taking_of, after_take, ending_of, after_end, wanting_of, after_want}
+use Rattle.host.specs.Calls.{taken_answer, taking_of, ending_of, after_end, wanting_of}
 use Rattle.area.proofs.Valid.{range-of}
 use Rattle.host.proofs.Answers.{a-node}
 use Rattle.area.proofs.Canon.{lengths, accepted}

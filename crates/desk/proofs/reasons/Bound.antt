@@ -1,13 +1,13 @@
 -- How long the reasons of a node can be: a close is a line of ten bytes, and the node prints at most 39.
 -- Assumes nothing.
-use mathlib.Core.Path.{◌≡◌, refl, sym, ap, ◌∙◌}
-use mathlib.Core.Bool.{Bool, true, false, cond, ◌&&◌}
-use mathlib.Core.List.{List, [], ◌∷◌, ◌++◌}
-use Prim.Native.Nat.{ℕ, zero, suc, ◌+◌, ◌*◌, ◌≤◌, ◌<◌}
+use mathlib.Core.Path.{◌≡◌, refl, ap, ◌∙◌}
+use mathlib.Core.Bool.{Bool, true, false, cond}
+use mathlib.Core.List.{List, []}
+use Prim.Native.Nat.{ℕ, zero, suc, ◌*◌, ◌≤◌, ◌<◌}
 use native.Mathlib.Omega.{arith}
 use borrow.Author.Tests.{ltb-true, ltb-false}
 use lib.Dec.{ltb}
-use lib.ListN.{length, length-append, get_or, replicate, get_or-replicate, length-replicate}
+use lib.ListN.{length, get_or, replicate, get_or-replicate, length-replicate}
 use Rattle.words.proofs.Tests.{and_left}
 use Rattle.lists.proofs.Laws.{get_d-tab, length-tab}
 use Rattle.text.proofs.Decimal.{tens, digits-short, digits-at-most}

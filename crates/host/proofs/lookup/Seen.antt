@@ -1,6 +1,6 @@
 -- What was looked at in a lent list of windows gives the answer and the demand.
 -- Assumes nothing.
-use mathlib.Core.Path.{◌≡◌, refl, ap}
+use mathlib.Core.Path.{◌≡◌, refl}
 use mathlib.Core.Bool.{Bool, true, false, not, cond, ◌&&◌}
 use mathlib.Core.List.{List}
 use Prim.Native.Nat.{ℕ}
@@ -10,7 +10,7 @@ use Rattle.node.specs.declared.Answer.TheVariants.{Done, OutOfRange, NoSuchNode,
 use Rattle.windows.specs.Windows.{list_ok, due_at, looked_of}
 use Rattle.windows.specs.declared.Window.{Window}
 use Rattle.host.specs.lookup.Lookup.{nodes_ok, demand_answer, demand_after}
-use Rattle.host.specs.lookup.Inner.{demand_answer_by, found_by}
+use Rattle.host.specs.lookup.Inner.{found_by}
 
 pub answer-seen : (N j D : ℕ) (ws : List Window) (e d : ℕ) → (found_by N j D (looked_of N D ws j e d) e d).code
     ≡ number (demand_answer N j D ws e)

@@ -1,6 +1,4 @@
 use mathlib.Core.Path.{refl, sym, ◌∙◌}
-use borrow.Author.Tests.{not-true, not-false}
-use borrow.Author.Rules.{rules}
 use Rattle.reduce.proofs.attempt.Goals as goal
 
 pub returns-then-not-kept_gives : goal.returns-then-not-kept_gives

@@ -1,11 +1,9 @@
 use mathlib.Core.Path.{sym, ◌∙◌, subst}
 use native.Mathlib.Omega.{arith}
-use borrow.Author.Tests.{not-false}
 use Rattle.machine.specs.Layout.{store}
 use Rattle.desk.specs.listings.Inner.{run_state_in}
 use Rattle.reduce.specs.Inner.{Spared}
 use Rattle.reduce.proofs.Passed.{spared-none, spared-cut}
-use borrow.Author.Rules.{rules}
 use Rattle.reduce.proofs.attempt_from.Goals as goal
 
 pub returns-then-hi-from : goal.returns-then-hi-from

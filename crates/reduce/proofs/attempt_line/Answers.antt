@@ -5,7 +5,6 @@ use borrow.Author.Tests.{eq-eqb, ne_eqb}
 use lib.Dec.{eqb}
 use lib.ListN.{get_or}
 use Rattle.reduce.specs.Inner.{gives_kept}
-use borrow.Author.Rules.{rules}
 use Rattle.reduce.proofs.attempt_line.Goals as goal
 
 pub returns-then-byte-ne1 : goal.returns-then-byte-ne1

@@ -1,5 +1,4 @@
 use Rattle.reduce.proofs.Marks.{still-gives}
-use borrow.Author.Rules.{rules}
 use Rattle.reduce.proofs.attempt_range.Goals as goal
 
 pub returns : goal.returns

@@ -1,9 +1,8 @@
 -- After the turns up to i the marks from lo on and below i are cleared.
 use mathlib.Core.Path.{◌≡◌, refl, ◌∙◌}
-use Prim.Native.Nat.{◌≤◌, ◌-◌, ◌+◌}
+use Prim.Native.Nat.{◌-◌}
 use native.Mathlib.Omega.{arith}
-use lib.ListN.{length, set, length-set}
-use Rattle.lists.specs.All.{iter}
+use lib.ListN.{length-set}
 use Rattle.lists.proofs.Laws.{iter-none, iter_end}
 use Rattle.reduce.proofs.Marks.{clear-more}
 use Rattle.reduce.proofs.clear.Goals as goal

@@ -1,10 +1,7 @@
-use mathlib.Core.Path.{◌≡◌, refl, ◌∙◌}
+use mathlib.Core.Path.{◌≡◌}
 use Prim.Native.Nat.{◌≤◌, ◌-◌, ◌+◌}
-use native.Mathlib.Omega.{arith}
-use lib.ListN.{length, set, length-set}
+use lib.ListN.{length, set}
 use Rattle.lists.specs.All.{iter}
-use Rattle.lists.proofs.Laws.{iter-none, iter_end}
-use Rattle.reduce.proofs.Marks.{clear-more}
 use Rattle.reduce.proofs.clear.Given as goal
 
 abbrev pub invariant-loop-i : goal.invariant-loop-i

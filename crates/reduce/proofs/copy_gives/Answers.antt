@@ -7,7 +7,6 @@ use Rattle.desk.specs.listings.Inner.{run_state_in}
 use Rattle.reduce.specs.Reduced.{gives}
 use Rattle.reduce.specs.Inner.{placed_lines, keep, is_kept}
 use Rattle.reduce.proofs.Copies.{whole-put}
-use borrow.Author.Rules.{rules}
 use Rattle.reduce.proofs.copy_gives.Goals as goal
 
 pub copy_words-requires : goal.copy_words-requires

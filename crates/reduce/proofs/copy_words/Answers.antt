@@ -1,8 +1,7 @@
 -- After i turns the first i words are the same.
-use mathlib.Core.Path.{◌≡◌, refl, ◌∙◌}
-use Prim.Native.Nat.{◌≤◌, ◌-◌}
+use mathlib.Core.Path.{refl, ◌∙◌}
 use native.Mathlib.Omega.{arith}
-use lib.ListN.{length, take, length-set}
+use lib.ListN.{length-set}
 use Rattle.reduce.proofs.Copies.{copy_more, copy-end}
 use Rattle.reduce.proofs.copy_words.Goals as goal
 

@@ -1,7 +1,6 @@
 use mathlib.Core.Path.{refl, sym, ◌∙◌}
 use native.Mathlib.Omega.{arith}
 use Rattle.reduce.proofs.Outcome.{refused-call, call-short, done-call}
-use borrow.Author.Rules.{rules}
 use Rattle.reduce.proofs.hydra_reduce.Goals as goal
 
 pub returns-then-c-ne0 : goal.returns-then-c-ne0

@@ -4,7 +4,6 @@ use Rattle.machine.specs.timed.Calls.{TimedState}
 use Rattle.reduce.specs.Reduced.{gives}
 use Rattle.reduce.specs.Inner.{kept_lines}
 use Rattle.reduce.proofs.Start.{begins}
-use borrow.Author.Rules.{rules}
 use Rattle.reduce.proofs.kept_gives.Goals as goal
 
 pub returns : goal.returns

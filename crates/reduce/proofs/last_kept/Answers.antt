@@ -1,6 +1,4 @@
-use Prim.Native.Nat.{◌≤◌}
 use native.Mathlib.Omega.{arith}
-use borrow.Author.Rules.{rules}
 use Rattle.reduce.proofs.last_kept.Goals as goal
 
 pub loop-i-init : goal.loop-i-init

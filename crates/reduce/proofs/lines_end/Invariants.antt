@@ -1,12 +1,9 @@
-use mathlib.Core.Path.{◌≡◌, sym, ◌∙◌}
-use Prim.Native.Nat.{suc, ◌≤◌, ◌-◌, ◌+◌}
-use native.Mathlib.Omega.{arith}
+use mathlib.Core.Path.{◌≡◌}
+use Prim.Native.Nat.{◌≤◌, ◌-◌, ◌+◌}
 use lib.ListN.{length, drop}
 use Rattle.text.specs.Read.{split}
-use Rattle.script.proofs.lines.Lines.{whole}
 use Rattle.reduce.specs.Reduced.{lines_in}
-use Rattle.reduce.proofs.Writing.{first_long, first-zero, first-end, first-open, first-line}
-use borrow.Author.Rules.{rules}
+use Rattle.reduce.proofs.Writing.{first_long}
 use Rattle.reduce.proofs.lines_end.Given as goal
 
 abbrev pub invariant-loop-i : goal.invariant-loop-i

@@ -1,11 +1,9 @@
-use mathlib.Core.Path.{◌≡◌, refl, sym, ◌∙◌}
-use Prim.Native.Nat.{◌≤◌, ◌-◌}
+use mathlib.Core.Path.{refl, sym, ◌∙◌}
 use native.Mathlib.Omega.{arith}
-use lib.ListN.{length, length-set}
+use lib.ListN.{length-set}
 use Rattle.script.proofs.lines.Lines.{whole}
 use Rattle.reduce.proofs.Lines.{open-within, all_lines}
-use Rattle.reduce.proofs.Marks.{all-kept, MarkedTo, mark-start, mark-none, mark-open, mark-line}
-use borrow.Author.Rules.{rules}
+use Rattle.reduce.proofs.Marks.{all-kept, mark-start, mark-none, mark-open, mark-line}
 use Rattle.reduce.proofs.mark_lines.Goals as goal
 
 pub loop-marks-init : goal.loop-marks-init

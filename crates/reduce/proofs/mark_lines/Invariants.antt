@@ -1,11 +1,7 @@
-use mathlib.Core.Path.{◌≡◌, refl, sym, ◌∙◌}
+use mathlib.Core.Path.{◌≡◌}
 use Prim.Native.Nat.{◌≤◌, ◌-◌}
-use native.Mathlib.Omega.{arith}
-use lib.ListN.{length, length-set}
-use Rattle.script.proofs.lines.Lines.{whole}
-use Rattle.reduce.proofs.Lines.{open-within, all_lines}
-use Rattle.reduce.proofs.Marks.{all-kept, MarkedTo, mark-start, mark-none, mark-open, mark-line}
-use borrow.Author.Rules.{rules}
+use lib.ListN.{length}
+use Rattle.reduce.proofs.Marks.{MarkedTo}
 use Rattle.reduce.proofs.mark_lines.Given as goal
 
 abbrev pub invariant-loop-marks : goal.invariant-loop-marks

@@ -1,14 +1,8 @@
 use mathlib.Core.Path.{sym, ◌∙◌}
-use Prim.Native.Nat.{◌≤◌, ◌-◌}
 use native.Mathlib.Omega.{arith}
-use lib.ListN.{length, drop}
-use Rattle.lists.proofs.Chain.{Left, start, step, end, finish-by, leftover}
-use Rattle.text.specs.Read.{split}
+use Rattle.lists.proofs.Chain.{start, step, end, finish-by, leftover}
 use Rattle.script.proofs.lines.Lines.{whole}
-use Rattle.reduce.specs.Reduced.{joined_lines}
-use Rattle.reduce.specs.Inner.{placed_lines, keep, is_kept}
 use Rattle.reduce.proofs.Writing.{kept-none, kept-open, kept_line}
-use borrow.Author.Rules.{rules}
 use Rattle.reduce.proofs.put_kept.Goals as goal
 
 pub loop-out-init : goal.loop-out-init

@@ -1,14 +1,9 @@
-use mathlib.Core.Path.{sym, ◌∙◌}
 use Prim.Native.Nat.{◌≤◌, ◌-◌}
-use native.Mathlib.Omega.{arith}
 use lib.ListN.{length, drop}
-use Rattle.lists.proofs.Chain.{Left, start, step, end, finish-by, leftover}
+use Rattle.lists.proofs.Chain.{Left}
 use Rattle.text.specs.Read.{split}
-use Rattle.script.proofs.lines.Lines.{whole}
 use Rattle.reduce.specs.Reduced.{joined_lines}
 use Rattle.reduce.specs.Inner.{placed_lines, keep, is_kept}
-use Rattle.reduce.proofs.Writing.{kept-none, kept-open, kept_line}
-use borrow.Author.Rules.{rules}
 use Rattle.reduce.proofs.put_kept.Given as goal
 
 abbrev pub invariant-loop-out : goal.invariant-loop-out

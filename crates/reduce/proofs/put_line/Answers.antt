@@ -3,10 +3,8 @@ use mathlib.Core.Bool.{Bool, cond}
 use mathlib.Core.List.{[]}
 use Prim.Native.Nat.{◌-◌}
 use lib.ListN.{take, drop}
-use borrow.Author.Tests.{not-true, not-false}
 use Rattle.lists.proofs.Chain.{retry}
 use Rattle.reduce.proofs.Writing.{put-nothing}
-use borrow.Author.Rules.{rules}
 use Rattle.reduce.proofs.put_line.Goals as goal
 
 pub returns-then-not-is_kept : goal.returns-then-not-is_kept

@@ -1,6 +1,5 @@
 use mathlib.Core.Path.{sym, ◌∙◌}
 use Rattle.reduce.proofs.Outcome.{no_room}
-use borrow.Author.Rules.{rules}
 use Rattle.reduce.proofs.reduce.Goals as goal
 
 pub returns-then-script-out : goal.returns-then-script-out

@@ -3,9 +3,7 @@ use Prim.Native.Nat.{ℕ}
 use native.Mathlib.Omega.{arith}
 use lib.ListN.{length-replicate}
 use lib.Seq.{length-take-le}
-use borrow.Author.Tests.{not-true, not-false}
 use Rattle.reduce.proofs.Outcome.{short, opens, events-none, events-given, lines-room, events-done}
-use borrow.Author.Rules.{rules}
 use Rattle.reduce.proofs.reduce_events.Goals as goal
 
 pub mark_lines-requires : goal.mark_lines-requires

@@ -1,8 +1,6 @@
 use mathlib.Core.Path.{sym, ◌∙◌}
 use lib.Seq.{length-take-le}
-use borrow.Author.Tests.{not-true, not-false}
 use Rattle.reduce.proofs.Outcome.{head-none, head-within, head_done}
-use borrow.Author.Rules.{rules}
 use Rattle.reduce.proofs.reduce_head.Goals as goal
 
 pub returns-then-not-is_refusal : goal.returns-then-not-is_refusal

@@ -1,16 +1,8 @@
-use mathlib.Core.Path.{◌≡◌, refl, sym, ap₂, ◌∙◌}
+use mathlib.Core.Path.{refl, sym, ap₂, ◌∙◌}
 use mathlib.Core.Bool.{◌&&◌}
-use Prim.Native.Nat.{◌≤◌, ◌-◌}
 use native.Mathlib.Omega.{arith}
-use lib.ListN.{length, drop}
-use Rattle.text.specs.Read.{split}
-use Rattle.machine.specs.Layout.{store}
 use Rattle.script.proofs.lines.Lines.{whole}
-use Rattle.desk.specs.listings.Inner.{run_state_in}
-use Rattle.reduce.specs.Reduced.{gives}
-use Rattle.reduce.specs.Inner.{placed_lines, keep, is_kept}
 use Rattle.reduce.proofs.Kept.{gives_none, gives-open, gives-hit, gives-next}
-use borrow.Author.Rules.{rules}
 use Rattle.reduce.proofs.run_gives.Goals as goal
 
 pub loop-e-init : goal.loop-e-init

@@ -1,14 +1,10 @@
-use mathlib.Core.Path.{◌≡◌, refl, sym, ◌∙◌}
-use mathlib.Core.Bool.{true, false}
+use mathlib.Core.Path.{◌≡◌}
+use mathlib.Core.Bool.{false}
 use Prim.Native.Nat.{◌-◌}
-use native.Mathlib.Omega.{arith}
 use lib.ListN.{length}
 use Rattle.machine.specs.Layout.{store}
-use Rattle.script.proofs.lines.Lines.{whole}
 use Rattle.desk.specs.listings.Inner.{run_state_in}
 use Rattle.reduce.specs.Inner.{Passed}
-use Rattle.reduce.proofs.Passed.{pass-start, pass-next}
-use borrow.Author.Rules.{rules}
 use Rattle.reduce.proofs.run_to.Given as goal
 
 abbrev pub invariant-loop-at : goal.invariant-loop-at

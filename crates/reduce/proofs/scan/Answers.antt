@@ -1,8 +1,6 @@
-use mathlib.Core.Path.{◌≡◌, refl, ◌∙◌}
-use Prim.Native.Nat.{◌≤◌, ◌-◌}
+use mathlib.Core.Path.{refl, ◌∙◌}
 use native.Mathlib.Omega.{arith}
-use lib.ListN.{length}
-use Rattle.reduce.proofs.Marks.{ScanTo, scan-start, scan-next, scan-end}
+use Rattle.reduce.proofs.Marks.{scan-start, scan-next, scan-end}
 use Rattle.reduce.proofs.scan.Goals as goal
 
 pub loop-at-init : goal.loop-at-init

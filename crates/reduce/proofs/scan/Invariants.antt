@@ -1,8 +1,7 @@
-use mathlib.Core.Path.{◌≡◌, refl, ◌∙◌}
+use mathlib.Core.Path.{◌≡◌}
 use Prim.Native.Nat.{◌≤◌, ◌-◌}
-use native.Mathlib.Omega.{arith}
 use lib.ListN.{length}
-use Rattle.reduce.proofs.Marks.{ScanTo, scan-start, scan-next, scan-end}
+use Rattle.reduce.proofs.Marks.{ScanTo}
 use Rattle.reduce.proofs.scan.Given as goal
 
 abbrev pub invariant-loop-at : goal.invariant-loop-at

@@ -1,12 +1,11 @@
-use mathlib.Core.Path.{◌≡◌, refl, ap, ◌∙◌}
+use mathlib.Core.Path.{refl, ap, ◌∙◌}
 use mathlib.Core.Bool.{true, false}
 use mathlib.Core.List.{List}
-use Prim.Native.Nat.{ℕ, ◌≤◌, ◌-◌}
+use Prim.Native.Nat.{ℕ}
 use native.Mathlib.Omega.{arith}
-use lib.ListN.{length}
 use Rattle.machine.specs.Layout.{store}
 use Rattle.desk.specs.listings.Inner.{run_state_in}
-use Rattle.reduce.specs.Inner.{gives_from, Passed}
+use Rattle.reduce.specs.Inner.{gives_from}
 use Rattle.reduce.proofs.Passed.{pass-start, pass-then, pass-hit, pass-spared, still-given}
 use Rattle.reduce.proofs.scan_from.Goals as goal
 

@@ -1,13 +1,10 @@
-use mathlib.Core.Path.{◌≡◌, refl, ap, ◌∙◌}
+use mathlib.Core.Path.{◌≡◌}
 use mathlib.Core.Bool.{true, false}
-use mathlib.Core.List.{List}
-use Prim.Native.Nat.{ℕ, ◌≤◌, ◌-◌}
-use native.Mathlib.Omega.{arith}
+use Prim.Native.Nat.{◌≤◌, ◌-◌}
 use lib.ListN.{length}
 use Rattle.machine.specs.Layout.{store}
 use Rattle.desk.specs.listings.Inner.{run_state_in}
 use Rattle.reduce.specs.Inner.{gives_from, Passed}
-use Rattle.reduce.proofs.Passed.{pass-start, pass-then, pass-hit, pass-spared, still-given}
 use Rattle.reduce.proofs.scan_from.Given as goal
 
 abbrev pub invariant-loop-lo : goal.invariant-loop-lo

@@ -5,7 +5,6 @@ use Rattle.machine.specs.Layout.{store}
 use Rattle.machine.specs.timed.Calls.{TimedState}
 use Rattle.reduce.specs.Inner.{gives_from}
 use Rattle.reduce.proofs.Start.{begins}
-use borrow.Author.Rules.{rules}
 use Rattle.reduce.proofs.scan_ranges.Goals as goal
 
 pub scan_from-requires : goal.scan_from-requires

@@ -1,8 +1,5 @@
-use mathlib.Core.Path.{◌≡◌, refl, ◌∙◌}
-use mathlib.Core.Bool.{true}
+use mathlib.Core.Path.{refl, ◌∙◌}
 use native.Mathlib.Omega.{arith}
-use lib.ListN.{length}
-use Rattle.reduce.specs.Inner.{gives_kept, marked_count}
 use Rattle.reduce.proofs.settle.Goals as goal
 
 pub loop-o-init : goal.loop-o-init

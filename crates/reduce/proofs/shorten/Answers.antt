@@ -1,10 +1,5 @@
-use mathlib.Core.Path.{◌≡◌, refl, ◌∙◌}
-use mathlib.Core.Bool.{true}
-use Prim.Native.Nat.{◌≤◌, ◌-◌}
+use mathlib.Core.Path.{refl, ◌∙◌}
 use native.Mathlib.Omega.{arith}
-use lib.ListN.{length}
-use Rattle.reduce.specs.Inner.{gives_kept}
-use borrow.Author.Rules.{rules}
 use Rattle.reduce.proofs.shorten.Goals as goal
 
 pub scan_ranges-requires : goal.scan_ranges-requires

@@ -1,10 +1,8 @@
-use mathlib.Core.Path.{◌≡◌, refl, ◌∙◌}
+use mathlib.Core.Path.{◌≡◌}
 use mathlib.Core.Bool.{true}
 use Prim.Native.Nat.{◌≤◌, ◌-◌}
-use native.Mathlib.Omega.{arith}
 use lib.ListN.{length}
 use Rattle.reduce.specs.Inner.{gives_kept}
-use borrow.Author.Rules.{rules}
 use Rattle.reduce.proofs.shorten.Given as goal
 
 abbrev pub invariant-loop-t : goal.invariant-loop-t

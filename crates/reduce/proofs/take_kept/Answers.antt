@@ -2,13 +2,11 @@ use mathlib.Core.Path.{sym, ap, ap₂, ◌∙◌}
 use Prim.Native.Nat.{◌-◌}
 use mathlib.Core.Bool.{Bool}
 use lib.ListN.{take, drop}
-use borrow.Author.Tests.{not-true, not-false}
 use Rattle.machine.specs.Layout.{store}
 use Rattle.script.specs.events.Events.{event_of}
 use Rattle.script.specs.declared.Parsed.{Parsed}
 use Rattle.desk.specs.listings.Inner.{run_state_in}
 use Rattle.reduce.specs.Inner.{line_run, trial_step_by}
-use borrow.Author.Rules.{rules}
 use Rattle.reduce.proofs.take_kept.Goals as goal
 
 pub returns-then-not-is_kept : goal.returns-then-not-is_kept

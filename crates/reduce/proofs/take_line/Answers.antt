@@ -13,7 +13,6 @@ use Rattle.desk.specs.listings.Output.{line_after}
 use Rattle.desk.specs.listings.Inner.{run_state_in, line_day_answer}
 use Rattle.reduce.specs.Reduced.{is_refusal}
 use Rattle.reduce.specs.Inner.{trial_step_by}
-use borrow.Author.Rules.{rules}
 use Rattle.reduce.proofs.take_line.Goals as goal
 
 pub returns-in-Malformed : goal.returns-in-Malformed

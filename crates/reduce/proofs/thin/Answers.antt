@@ -1,9 +1,5 @@
-use mathlib.Core.Path.{◌≡◌, refl, ◌∙◌}
-use mathlib.Core.Bool.{true}
+use mathlib.Core.Path.{refl, ◌∙◌}
 use native.Mathlib.Omega.{arith}
-use lib.ListN.{length}
-use Rattle.reduce.specs.Inner.{gives_kept}
-use borrow.Author.Rules.{rules}
 use Rattle.reduce.proofs.thin.Goals as goal
 
 pub loop-c-init : goal.loop-c-init

@@ -1,9 +1,7 @@
-use mathlib.Core.Path.{◌≡◌, refl, ◌∙◌}
+use mathlib.Core.Path.{◌≡◌}
 use mathlib.Core.Bool.{true}
-use native.Mathlib.Omega.{arith}
 use lib.ListN.{length}
 use Rattle.reduce.specs.Inner.{gives_kept}
-use borrow.Author.Rules.{rules}
 use Rattle.reduce.proofs.thin.Given as goal
 
 abbrev pub invariant-loop-c : goal.invariant-loop-c

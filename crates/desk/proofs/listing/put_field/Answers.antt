@@ -2,12 +2,11 @@ use mathlib.Core.Path.{sym, ◌∙◌}
 use Prim.Native.Nat.{◌+◌, ◌≤◌}
 use native.Mathlib.Omega.{arith}
 use lib.ListN.{length}
-use borrow.Author.Tests.{not-true, not-false, leb-true, leb-false}
+use borrow.Author.Tests.{leb-true, leb-false}
 use Rattle.lists.proofs.Chain.{tried, not-tried}
 use Rattle.text.proofs.Decimal.{digits-at-most}
 use Rattle.desk.specs.listing.Inner.{field}
 use Rattle.desk.proofs.listing.Laws.{field-length, field_put}
-use borrow.Author.Rules.{rules}
 use Rattle.desk.proofs.listing.put_field.Goals as goal
 
 pub overflow_add-width : goal.overflow_add-width

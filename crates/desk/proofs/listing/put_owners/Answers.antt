@@ -1,12 +1,8 @@
 -- After i turns the first i owners are written with their commas, and the text of the others is left.
-use lib.ListN.{length, drop}
-use Rattle.lists.proofs.Chain.{Left, start, finish, end, leftover, none, recast}
-use Rattle.desk.specs.listing.Rows.{more_owners}
+use Rattle.lists.proofs.Chain.{start, finish, end, leftover, none, recast}
 use Rattle.desk.proofs.listing.Laws.{more-end, owners-none, owners-left, owners-turn}
 use mathlib.Core.Path.{sym, ◌∙◌}
-use Prim.Native.Nat.{◌≤◌, ◌-◌}
 use native.Mathlib.Omega.{arith}
-use borrow.Author.Rules.{rules}
 use Rattle.desk.proofs.listing.put_owners.Goals as goal
 
 pub returns-then-owners-eq0 : goal.returns-then-owners-eq0

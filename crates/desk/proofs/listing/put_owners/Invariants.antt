@@ -1,11 +1,7 @@
 use lib.ListN.{length, drop}
-use Rattle.lists.proofs.Chain.{Left, start, finish, end, leftover, none, recast}
+use Rattle.lists.proofs.Chain.{Left}
 use Rattle.desk.specs.listing.Rows.{more_owners}
-use Rattle.desk.proofs.listing.Laws.{more-end, owners-none, owners-left, owners-turn}
-use mathlib.Core.Path.{sym, ◌∙◌}
 use Prim.Native.Nat.{◌≤◌, ◌-◌}
-use native.Mathlib.Omega.{arith}
-use borrow.Author.Rules.{rules}
 use Rattle.desk.proofs.listing.put_owners.Given as goal
 
 -- What is left to be written are the owners from the i-th on, each with a comma before it.

@@ -3,12 +3,11 @@ use mathlib.Core.Path.{sym, ◌∙◌}
 use Prim.Native.Nat.{◌+◌, ◌≤◌}
 use native.Mathlib.Omega.{arith}
 use lib.ListN.{length}
-use borrow.Author.Tests.{not-true, not-false, leb-true, leb-false}
+use borrow.Author.Tests.{leb-true, leb-false}
 use Rattle.lists.proofs.Chain.{tried, not-tried, retry}
 use Rattle.text.proofs.Decimal.{digits-at-most}
 use Rattle.desk.specs.listing.Rows.{report_line}
 use Rattle.desk.proofs.listing.Laws.{tried-none, report-none, report-some, report-length}
-use borrow.Author.Rules.{rules}
 use Rattle.desk.proofs.listing.put_report.Goals as goal
 
 pub returns-then-is_done : goal.returns-then-is_done

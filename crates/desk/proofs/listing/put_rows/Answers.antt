@@ -1,11 +1,6 @@
-use Prim.Native.Nat.{◌≤◌, ◌-◌}
-use mathlib.Core.Path.{◌≡◌, refl, sym, ◌∙◌}
+use mathlib.Core.Path.{refl, sym, ◌∙◌}
 use native.Mathlib.Omega.{arith}
-use lib.ListN.{length}
-use Rattle.machine.specs.Layout.{store}
-use Rattle.desk.specs.listing.Rows.{page, with_rows}
 use Rattle.desk.proofs.listing.Rows.{line-tried, rows_start, rows_none, rows_next}
-use borrow.Author.Rules.{rules}
 use Rattle.desk.proofs.listing.put_rows.Goals as goal
 
 pub loop-i-init : goal.loop-i-init

@@ -1,11 +1,8 @@
 use Prim.Native.Nat.{◌≤◌, ◌-◌}
-use mathlib.Core.Path.{◌≡◌, refl, sym, ◌∙◌}
-use native.Mathlib.Omega.{arith}
+use mathlib.Core.Path.{◌≡◌}
 use lib.ListN.{length}
 use Rattle.machine.specs.Layout.{store}
 use Rattle.desk.specs.listing.Rows.{page, with_rows}
-use Rattle.desk.proofs.listing.Rows.{line-tried, rows_start, rows_none, rows_next}
-use borrow.Author.Rules.{rules}
 use Rattle.desk.proofs.listing.put_rows.Given as goal
 
 -- The rows from the i-th on, put behind what is written, are all of them.

@@ -1,7 +1,6 @@
 use Rattle.lists.proofs.Chain.{retry}
 use Rattle.desk.specs.listing.Inner.{state_field}
 use mathlib.Core.Path.{sym, ap}
-use borrow.Author.Rules.{rules}
 use Rattle.desk.proofs.listing.put_state.Goals as goal
 
 pub returns-in-Live : goal.returns-in-Live

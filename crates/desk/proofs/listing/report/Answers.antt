@@ -1,5 +1,4 @@
 use Rattle.desk.proofs.listing.Laws.{report-put}
-use borrow.Author.Rules.{rules}
 use Rattle.desk.proofs.listing.report.Goals as goal
 
 pub returns : goal.returns

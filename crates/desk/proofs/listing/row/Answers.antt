@@ -1,12 +1,7 @@
 use mathlib.Core.List.{[], ◌∷◌}
-use lib.ListN.{length, take}
-use lib.Seq.{length-take-le}
 use Rattle.lists.proofs.Chain.{room_for, next, finish-by}
 use Rattle.desk.specs.listing.Rows.{owners_text}
 use Rattle.desk.proofs.listing.Laws.{row-left}
-use mathlib.Core.Path.{◌≡◌, sym}
-use native.Mathlib.Omega.{arith}
-use borrow.Author.Rules.{rules}
 use Rattle.desk.proofs.listing.row.Goals as goal
 
 pub put_owners-f-requires : goal.put_owners-f-requires

@@ -6,7 +6,6 @@ use Rattle.site.specs.declared.State.{State}
 use Rattle.machine.specs.Layout.{store}
 use Rattle.machine.specs.Loading.{member_read}
 use Rattle.desk.specs.declared.Shown.{Shown}
-use borrow.Author.Rules.{rules}
 use Rattle.desk.proofs.listing.shown_of.Goals as goal
 
 abbrev shape : Core → State → Bool → Shown

@@ -2,7 +2,6 @@ use mathlib.Core.Path.{sym, ap, ◌∙◌}
 use Rattle.machine.specs.Layout.{store}
 use Rattle.desk.specs.listings.Inner.{event_node_report}
 use Rattle.desk.specs.declared.View.{View}
-use borrow.Author.Rules.{rules}
 use Rattle.desk.proofs.listings.event_report.Goals as goal
 
 pub returns-in-Refusals : goal.returns-in-Refusals

@@ -1,6 +1,5 @@
 use mathlib.Core.Path.{sym, ap}
 use Rattle.desk.specs.listings.Inner.{has_head}
-use borrow.Author.Rules.{rules}
 use Rattle.desk.proofs.listings.has_head.Goals as goal
 
 pub returns-in-Reasons : goal.returns-in-Reasons

@@ -2,13 +2,11 @@
 use mathlib.Core.Path.{sym, ◌∙◌}
 use native.Mathlib.Omega.{arith}
 use lib.ListN.{length}
-use borrow.Author.Tests.{not-true, not-false}
 use Rattle.node.specs.declared.Answer.TheVariants.{NoRoom}
 use Rattle.windows.specs.Copies.{windows_in}
 use Rattle.script.proofs.load.Outcome.{opened-config}
 use Rattle.desk.proofs.listings.Bound.{room-some}
 use Rattle.desk.proofs.listings.Parts.{short-area, long-script, refusal_is, refused-is, opens-fits, opens-put, opens-area}
-use borrow.Author.Rules.{rules}
 use Rattle.desk.proofs.listings.print.Goals as goal
 
 pub put_refused-requires : goal.put_refused-requires

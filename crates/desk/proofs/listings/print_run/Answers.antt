@@ -1,11 +1,8 @@
 -- A load that is refused prints line 0 alone; one that is accepted leaves the site that the lines run on, and room for what they print.
-use mathlib.Core.Path.{sym, ap, ◌∙◌}
-use Prim.Native.Nat.{◌≤◌}
+use mathlib.Core.Path.{sym, ◌∙◌}
 use native.Mathlib.Omega.{arith}
-use lib.ListN.{length}
-use borrow.Author.Tests.{not-true, not-false}
 use Rattle.windows.specs.Copies.{windows_in}
-use Rattle.machine.specs.Layout.{store, words_size, bytes_size}
+use Rattle.machine.specs.Layout.{store}
 use Rattle.desk.proofs.listings.Parts.{zeros-long, not-loaded, loaded, begun-list, bad-put, bad-area, run_room, rest-room, rest_put}
 use Rattle.desk.proofs.listings.Parts.{area-is}
 use borrow.Author.Rules.{rules}

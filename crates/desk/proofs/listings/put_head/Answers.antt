@@ -3,7 +3,6 @@ use Rattle.lists.proofs.Chain.{retry}
 use Rattle.desk.specs.listings.Inner.{head_text}
 use Rattle.desk.proofs.listings.Parts.{head-none, head-put}
 use Rattle.desk.specs.declared.View.{View}
-use borrow.Author.Rules.{rules}
 use Rattle.desk.proofs.listings.put_head.Goals as goal
 
 pub returns-then-j-ne0 : goal.returns-then-j-ne0

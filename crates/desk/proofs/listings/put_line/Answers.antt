@@ -2,7 +2,6 @@ use mathlib.Core.Path.{sym, ap}
 use Rattle.lists.proofs.Chain.{retry}
 use Rattle.desk.specs.listings.Inner.{line_text}
 use Rattle.desk.specs.declared.View.{View}
-use borrow.Author.Rules.{rules}
 use Rattle.desk.proofs.listings.put_line.Goals as goal
 
 pub returns-in-Refusals : goal.returns-in-Refusals

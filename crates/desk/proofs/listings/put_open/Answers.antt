@@ -3,7 +3,6 @@ use Rattle.lists.proofs.Chain.{retry}
 use Rattle.node.specs.declared.Answer.TheVariants.{OutOfRange}
 use Rattle.machine.specs.declared.NodeReport.{NodeReport}
 use Rattle.desk.specs.listings.Inner.{line_text}
-use borrow.Author.Rules.{rules}
 use Rattle.desk.proofs.listings.put_open.Goals as goal
 
 pub returns : goal.returns

@@ -1,7 +1,5 @@
 use mathlib.Core.Path.{sym, ◌∙◌}
-use borrow.Author.Tests.{not-true, not-false}
 use Rattle.desk.proofs.listings.Parts.{refused_none, refused-put}
-use borrow.Author.Rules.{rules}
 use Rattle.desk.proofs.listings.put_refused.Goals as goal
 
 pub returns-then-not-has_head : goal.returns-then-not-has_head

@@ -7,7 +7,6 @@ use Rattle.desk.proofs.listing.Rows.{rows-put}
 use Rattle.desk.specs.listings.Output.{second_head}
 use Rattle.desk.specs.listings.Inner.{rest_text}
 use Rattle.desk.specs.declared.View.{View}
-use borrow.Author.Rules.{rules}
 use Rattle.desk.proofs.listings.put_rest.Goals as goal
 
 pub returns-in-Refusals : goal.returns-in-Refusals

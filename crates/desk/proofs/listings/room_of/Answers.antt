@@ -1,7 +1,6 @@
 use mathlib.Core.Path.{sym, ap, ◌∙◌}
 use Rattle.desk.specs.listings.Calls.{room_of}
 use Rattle.desk.specs.declared.View.{View}
-use borrow.Author.Rules.{rules}
 use Rattle.desk.proofs.listings.room_of.Goals as goal
 
 pub returns-in-Refusals : goal.returns-in-Refusals

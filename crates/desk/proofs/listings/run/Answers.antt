@@ -1,21 +1,16 @@
 -- What is printed of the lines read so far, with what is printed of those to come, is what all of them print;
 -- the site in storage is the one after the lines so far.
-use mathlib.Core.Path.{◌≡◌, refl, sym, ap, ◌∙◌}
-use mathlib.Core.Bool.{true}
-use Prim.Native.Nat.{◌≤◌, ◌-◌, ◌+◌}
+use mathlib.Core.Path.{refl, sym, ap, ◌∙◌}
+use Prim.Native.Nat.{◌≤◌}
 use native.Mathlib.Omega.{arith}
-use lib.ListN.{length, drop}
-use Rattle.text.specs.Read.{split}
-use Rattle.lists.proofs.Chain.{Left, start, step, end, leftover, finish-by}
-use Rattle.windows.specs.Windows.{list_ok}
+use lib.ListN.{length}
+use Rattle.lists.proofs.Chain.{start, step, end, leftover, finish-by}
 use Rattle.windows.specs.Copies.{windows_in}
-use Rattle.machine.specs.Layout.{store, site_in, words_size, bytes_size}
+use Rattle.machine.specs.Layout.{store, words_size, bytes_size}
 use Rattle.machine.specs.timed.Calls.{TimedState}
 use Rattle.script.proofs.lines.Lines.{whole}
-use Rattle.desk.specs.listings.Output.{events_in, run_by}
-use Rattle.desk.specs.listings.Inner.{run_state_in, lines_text}
+use Rattle.desk.specs.listings.Inner.{run_state_in}
 use Rattle.desk.proofs.listings.Laws.{lines_none, run_none, lines-open, run-open, next-list, next-lines, next-run}
-use borrow.Author.Rules.{rules}
 use Rattle.desk.proofs.listings.run.Goals as goal
 
 pub loop-out-init : goal.loop-out-init

@@ -1,19 +1,14 @@
-use mathlib.Core.Path.{◌≡◌, refl, sym, ap, ◌∙◌}
+use mathlib.Core.Path.{◌≡◌}
 use mathlib.Core.Bool.{true}
 use Prim.Native.Nat.{◌≤◌, ◌-◌, ◌+◌}
-use native.Mathlib.Omega.{arith}
 use lib.ListN.{length, drop}
 use Rattle.text.specs.Read.{split}
-use Rattle.lists.proofs.Chain.{Left, start, step, end, leftover, finish-by}
+use Rattle.lists.proofs.Chain.{Left}
 use Rattle.windows.specs.Windows.{list_ok}
 use Rattle.windows.specs.Copies.{windows_in}
-use Rattle.machine.specs.Layout.{store, site_in, words_size, bytes_size}
-use Rattle.machine.specs.timed.Calls.{TimedState}
-use Rattle.script.proofs.lines.Lines.{whole}
+use Rattle.machine.specs.Layout.{store, site_in}
 use Rattle.desk.specs.listings.Output.{events_in, run_by}
 use Rattle.desk.specs.listings.Inner.{run_state_in, lines_text}
-use Rattle.desk.proofs.listings.Laws.{lines_none, run_none, lines-open, run-open, next-list, next-lines, next-run}
-use borrow.Author.Rules.{rules}
 use Rattle.desk.proofs.listings.run.Given as goal
 
 -- The lines still to come bring the site and area reached to where all the lines bring the first ones, and what is printed of them is left

@@ -1,7 +1,6 @@
 use Rattle.windows.specs.Copies.{windows_in}
 use Rattle.desk.proofs.listings.Parts.{ends-within, no_room, with-room}
 use native.Mathlib.Omega.{arith}
-use borrow.Author.Rules.{rules}
 use Rattle.desk.proofs.listings.show.Goals as goal
 
 pub returns-then-out-room_of : goal.returns-then-out-room_of

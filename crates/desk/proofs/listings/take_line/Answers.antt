@@ -8,7 +8,6 @@ use Rattle.machine.proofs.timed.Known.{keeps, by-list}
 use Rattle.script.specs.declared.Parsed.{Parsed}
 use Rattle.desk.specs.listings.Output.{line_after}
 use Rattle.desk.specs.listings.Inner.{run_state_in, line_taken}
-use borrow.Author.Rules.{rules}
 use Rattle.desk.proofs.listings.take_line.Goals as goal
 
 pub returns-in-Malformed : goal.returns-in-Malformed

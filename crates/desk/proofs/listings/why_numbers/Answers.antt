@@ -1,4 +1,3 @@
-use borrow.Author.Rules.{rules}
 use Rattle.desk.proofs.listings.why_numbers.Goals as goal
 
 pub returns : goal.returns

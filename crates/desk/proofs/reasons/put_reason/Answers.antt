@@ -4,7 +4,6 @@ use borrow.Author.Tests.{not-true, not-false}
 use Rattle.lists.proofs.Chain.{front-is, retry}
 use Rattle.desk.proofs.listing.Laws.{ends-within, tried-none}
 use Rattle.desk.proofs.reasons.Laws.{line-long, reason-some, reason-none}
-use borrow.Author.Rules.{rules}
 use Rattle.desk.proofs.reasons.put_reason.Goals as goal
 
 pub returns-then-not-t : goal.returns-then-not-t

@@ -2,7 +2,6 @@
 use mathlib.Core.Path.{sym, ap}
 use Rattle.lists.proofs.Chain.{retry}
 use Rattle.desk.specs.reasons.Inner.{rule_field}
-use borrow.Author.Rules.{rules}
 use Rattle.desk.proofs.reasons.put_rule.Goals as goal
 
 pub returns-in-RequestMissing : goal.returns-in-RequestMissing

@@ -1,6 +1,4 @@
 use Rattle.desk.proofs.reasons.Laws.{line-put}
-use native.Mathlib.Omega.{arith}
-use borrow.Author.Rules.{rules}
 use Rattle.desk.proofs.reasons.row.Goals as goal
 
 pub returns : goal.returns

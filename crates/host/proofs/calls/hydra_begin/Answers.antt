@@ -1,6 +1,5 @@
 use mathlib.Core.Path.{sym, ap, ◌∙◌}
 use native.Mathlib.Omega.{arith}
-use borrow.Author.Tests.{not-true, not-false}
 use Rattle.node.specs.Answers.{is_done}
 use Rattle.node.specs.Core.{bare}
 use Rattle.node.specs.Begin.{starting, start_answer}
@@ -10,7 +9,6 @@ use Rattle.node.proofs.Tested.{start-asks}
 use Rattle.host.specs.Calls.{is_sized, setup_from, beginning, after_begin}
 use Rattle.host.proofs.Answers.{then-stands, refusal}
 use Rattle.host.proofs.Stepped.{begins}
-use borrow.Author.Rules.{rules}
 use Rattle.host.proofs.calls.hydra_begin.Goals as goal
 
 pub returns-then-not-is_done : goal.returns-then-not-is_done

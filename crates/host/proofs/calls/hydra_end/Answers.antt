@@ -1,5 +1,4 @@
 use mathlib.Core.Path.{sym, ap, ◌∙◌}
-use borrow.Author.Tests.{not-true, not-false}
 use Rattle.node.specs.Answers.{is_done}
 use Rattle.node.specs.declared.Core.{Core}
 use Rattle.node.proofs.Answers.{done-is}
@@ -13,7 +12,6 @@ use Rattle.range.proofs.Lengths.{long-end}
 use Rattle.host.specs.Calls.{ending_of, after_end}
 use Rattle.host.proofs.Answers.{no_node, is-node, core_is, refuses, steps}
 use Rattle.host.proofs.Stepped.{gone}
-use borrow.Author.Rules.{rules}
 use Rattle.host.proofs.calls.hydra_end.Goals as goal
 
 pub returns-then-not-o : goal.returns-then-not-o

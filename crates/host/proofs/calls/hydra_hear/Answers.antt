@@ -1,5 +1,4 @@
 use mathlib.Core.Path.{sym, ap, ◌∙◌}
-use borrow.Author.Tests.{not-true, not-false}
 use Rattle.node.specs.Answers.{is_done}
 use Rattle.node.specs.declared.Core.{Core}
 use Rattle.node.specs.Model.{Node}
@@ -16,7 +15,6 @@ use Rattle.wire.specs.declared.PacketRead.{PacketRead}
 use Rattle.host.specs.Calls.{heard_answer, hearing_of, after_hear}
 use Rattle.host.proofs.Answers.{no_node, is-node, core_is, refuses, steps}
 use Rattle.host.proofs.Stepped.{gone, heard-bare}
-use borrow.Author.Rules.{rules}
 use Rattle.host.proofs.calls.hydra_hear.Goals as goal
 
 pub returns-then-not-o : goal.returns-then-not-o

@@ -19,7 +19,6 @@ use Rattle.host.specs.Report.{report_size, report}
 use Rattle.host.specs.Calls.{room_answer, reading_of, out_read}
 use Rattle.host.proofs.Answers.{no_node, is-node, core_is, put-out}
 use Rattle.host.proofs.Stepped.{told_is}
-use borrow.Author.Rules.{rules}
 use Rattle.host.proofs.calls.hydra_read.Goals as goal
 
 -- a report doesn't tell the determined schedule

@@ -1,5 +1,4 @@
 use mathlib.Core.Path.{sym, ap, ◌∙◌}
-use borrow.Author.Tests.{not-true, not-false}
 use Rattle.node.specs.Answers.{is_done}
 use Rattle.node.specs.Core.{bare}
 use Rattle.node.specs.Begin.{waiting, restart_answer}
@@ -8,7 +7,6 @@ use Rattle.node.proofs.Bare.{waiting-bare}
 use Rattle.host.specs.Calls.{is_sized, setup_from, restarting, after_restart}
 use Rattle.host.proofs.Answers.{then-stands, refusal}
 use Rattle.host.proofs.Stepped.{begins}
-use borrow.Author.Rules.{rules}
 use Rattle.host.proofs.calls.hydra_restart.Goals as goal
 
 pub returns-then-not-is_done : goal.returns-then-not-is_done

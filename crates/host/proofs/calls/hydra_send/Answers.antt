@@ -10,7 +10,6 @@ use Rattle.wire.specs.Layout.{packet_bytes}
 use Rattle.host.specs.Calls.{sent_answer, sending_of, out_send}
 use Rattle.host.proofs.Answers.{no_node, core_is, put-out}
 use Rattle.host.proofs.Stepped.{sent-bare}
-use borrow.Author.Rules.{rules}
 use Rattle.host.proofs.calls.hydra_send.Goals as goal
 
 pub returns-then-not-o : goal.returns-then-not-o

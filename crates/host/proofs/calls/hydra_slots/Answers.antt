@@ -2,8 +2,6 @@ use mathlib.Core.Path.{◌≡◌, refl, sym, ap, ◌∙◌}
 use mathlib.Core.Bool.{false, not}
 use mathlib.Core.List.{List, [], ◌∷◌}
 use Prim.Native.Nat.{ℕ}
-use borrow.Author.Rules.{rules}
-use borrow.Author.Tests.{not-true, not-false}
 use Rattle.masks.specs.Bytes.{own_read}
 use Rattle.masks.specs.declared.NodeSlots.{NodeSlots}
 use Rattle.node.specs.Answers.{number, is_done}

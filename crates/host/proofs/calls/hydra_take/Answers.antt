@@ -1,7 +1,6 @@
 use mathlib.Core.List.{List}
 use Prim.Native.Nat.{ℕ}
 use mathlib.Core.Path.{sym, ap, ap₂, ◌∙◌}
-use borrow.Author.Tests.{not-true, not-false}
 use Rattle.node.specs.Answers.{is_done}
 use Rattle.node.specs.declared.Core.{Core}
 use Rattle.node.specs.Model.{Node}
@@ -26,7 +25,6 @@ use Rattle.host.specs.Calls.{taken_answer, taking_of, after_take}
 use Rattle.host.proofs.Answers.{no_node, is-node, core_is, refuses, steps}
 use Rattle.host.proofs.Stepped.{taken-bare, taken-long, taken-masks}
 use Rattle.host.proofs.Stays.{long-schedule}
-use borrow.Author.Rules.{rules}
 use Rattle.host.proofs.calls.hydra_take.Goals as goal
 
 pub returns-then-not-o : goal.returns-then-not-o

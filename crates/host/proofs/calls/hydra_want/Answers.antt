@@ -1,5 +1,4 @@
 use mathlib.Core.Path.{◌≡◌, refl, sym, ap, ◌∙◌}
-use borrow.Author.Tests.{not-true, not-false}
 use Rattle.node.specs.Answers.{number, is_done}
 use Rattle.node.specs.declared.Core.{Core}
 use Rattle.node.specs.Model.{Node}
@@ -23,7 +22,6 @@ use Rattle.area.specs.Area.{valid}
 use Rattle.host.specs.Calls.{and_then, is_node_area, unless_refused, wanting_of, after_want}
 use Rattle.host.proofs.Answers.{then-stands, refusal, no_node, is-node, core_is, steps}
 use Rattle.host.proofs.Stepped.{gone, wanting-so}
-use borrow.Author.Rules.{rules}
 use Rattle.host.proofs.calls.hydra_want.Goals as goal
 
 -- a demand within its range leaves the answer to the area

@@ -1,8 +1,6 @@
 use mathlib.Core.Bool.{true, false}
 use mathlib.Core.Path.{◌≡◌, ap}
-use Prim.Native.Nat.{ℕ}
 use lib.ListN.{length}
-use borrow.Author.Tests.{not-true, not-false}
 use Rattle.allotment.proofs.Schedules.{owners-free}
 use Rattle.node.specs.Core.{bare}
 use Rattle.node.specs.declared.Core.{Core}

@@ -2,12 +2,10 @@ use mathlib.Core.Bool.{Bool, true, false, cond}
 use mathlib.Core.Path.{◌≡◌, refl, sym, ap, ◌∙◌}
 use lib.Dec.{leb}
 use lib.ListN.{length}
-use borrow.Author.Tests.{not-true, not-false}
 use Rattle.node.specs.Answers.{is_done}
 use Rattle.node.specs.declared.Answer.TheVariants.{Done, NoRoom}
 use Rattle.wire.specs.Layout.{schedule_size}
 use Rattle.host.specs.Calls.{room_answer}
-use borrow.Author.Rules.{rules}
 use Rattle.host.proofs.steps.has_room.Goals as goal
 
 -- room is there or not, and what is said of it is the same

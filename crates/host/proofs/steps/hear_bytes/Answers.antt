@@ -1,7 +1,6 @@
 -- The phase first, then the bytes' own answer, then the node's.
 use mathlib.Core.Bool.{true, false}
 use mathlib.Core.List.{List}
-use borrow.Author.Tests.{not-true, not-false}
 use Rattle.words.proofs.Tests.{hit, skip}
 use Rattle.node.specs.Answers.{is_done}
 use Rattle.node.specs.Figures.{negotiates}
@@ -19,7 +18,6 @@ use Rattle.host.specs.Calls.{and_then, heard_answer}
 use Rattle.host.proofs.Answers.{then_next, then-stands}
 use mathlib.Core.Path.{◌≡◌, refl, sym, ap, ap₂, ◌∙◌}
 use Prim.Native.Nat.{ℕ}
-use borrow.Author.Rules.{rules}
 use Rattle.host.proofs.steps.hear_bytes.Goals as goal
 
 module _ (n : Node) (p : List ℕ) where

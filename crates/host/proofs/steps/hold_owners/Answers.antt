@@ -1,9 +1,7 @@
-use mathlib.Core.List.{List}
 use mathlib.Core.Path.{◌≡◌, ap, ◌∙◌}
 use Prim.Native.Nat.{ℕ, ◌+◌, ◌-◌}
 use native.Mathlib.Omega.{arith}
 use lib.ListN.{take, drop}
-use borrow.Author.Rules.{rules}
 use Rattle.area.specs.Steps.{area_holding}
 use Rattle.host.proofs.steps.hold_owners.Goals as goal
 

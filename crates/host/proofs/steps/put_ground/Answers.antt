@@ -3,7 +3,6 @@ use mathlib.Core.Path.{ap, ◌∙◌}
 use Prim.Native.Nat.{ℕ}
 use lib.Dec.{leb}
 use lib.ListN.{length}
-use borrow.Author.Rules.{rules}
 use Rattle.lists.proofs.Chain.{retry}
 use Rattle.host.specs.Calls.{ground_size, ground_bytes}
 use Rattle.host.proofs.Answers.{in-room}

@@ -5,7 +5,7 @@ use Prim.Native.Nat.{ℕ, ◌+◌, ◌≤◌}
 use native.Mathlib.Omega.{arith}
 use lib.Dec.{leb}
 use lib.ListN.{length}
-use borrow.Author.Tests.{le-leb, not-true, not-false}
+use borrow.Author.Tests.{le-leb}
 use Rattle.lists.specs.Bytes.{written}
 use Rattle.lists.proofs.Chain.{written_none}
 use Rattle.allotment.specs.Allotment.{free, schedule_of}
@@ -23,7 +23,6 @@ use Rattle.wire.specs.Layout.{schedule_size, schedule_bytes}
 use Rattle.area.specs.Area.{at_schedule}
 use Rattle.host.specs.Calls.{room_answer, output, close_room, close_bytes}
 use Rattle.host.proofs.Answers.{in-room}
-use borrow.Author.Rules.{rules}
 use Rattle.host.proofs.steps.put_sent.Goals as goal
 
 module _ (n : Node) (out : List ℕ) where

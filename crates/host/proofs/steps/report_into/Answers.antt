@@ -28,7 +28,6 @@ use Rattle.host.proofs.Writes.{report-is}
 use mathlib.Core.Path.{◌≡◌, refl, sym, ap, ◌∙◌}
 use Prim.Native.Nat.{ℕ, ◌+◌, ◌≤◌}
 use native.Mathlib.Omega.{arith}
-use borrow.Author.Rules.{rules}
 use Rattle.host.proofs.steps.report_into.Goals as goal
 
 -- the four parts, where there is room for them all

@@ -2,7 +2,6 @@ use mathlib.Core.Bool.{Bool, true, false, cond}
 use mathlib.Core.List.{List}
 use mathlib.Core.Path.{◌≡◌, sym, ap, ◌∙◌}
 use Prim.Native.Nat.{ℕ}
-use borrow.Author.Tests.{not-true, not-false}
 use Rattle.node.specs.Answers.{is_done}
 use Rattle.node.specs.Core.{bare}
 use Rattle.node.specs.Negotiation.{packet_of, send_answer}
@@ -16,7 +15,6 @@ use Rattle.wire.specs.Layout.{packet_size, packet_bytes}
 use Rattle.wire.specs.Reads.{placed, has_part}
 use Rattle.host.specs.Calls.{room_answer, output, sent_answer}
 use Rattle.host.proofs.Answers.{then_next, then-stands, refusal, in-room}
-use borrow.Author.Rules.{rules}
 use Rattle.host.proofs.steps.send_into.Goals as goal
 
 -- a node's packet is refused as the node refuses it, or written where there is room

@@ -1,12 +1,10 @@
 use mathlib.Core.Path.{sym, ap, ◌∙◌}
-use borrow.Author.Tests.{not-true, not-false}
 use Rattle.node.specs.Answers.{is_done}
 use Rattle.node.specs.Core.{bare}
 use Rattle.node.specs.Distribution.{take_answer}
 use Rattle.node.proofs.Bare.{take-phase}
 use Rattle.wire.specs.Reads.{schedule_answer}
 use Rattle.host.proofs.Answers.{then_next, then-stands}
-use borrow.Author.Rules.{rules}
 use Rattle.host.proofs.steps.take_bytes.Goals as goal
 
 pub returns-then-not-is_done : goal.returns-then-not-is_done
