@@ -25,7 +25,6 @@ use Rattle.machine.specs.steps.After.{heard_part, heard_store, site_heard, part_
 use Rattle.machine.proofs.steps.Asked.{heard-there}
 use Rattle.machine.specs.combined.Kept.{first_refusal}
 use Rattle.machine.proofs.combined.Laws.{first_done, first-refuses}
-use Rattle.group.specs.Places.{place}
 use Rattle.group.specs.Group.{Group, part_at}
 use Rattle.group.proofs.Parts.{own-part}
 use Rattle.sites.specs.many.Inner.{own_by, group_hear_answer, hear_store, heard_bytes}

@@ -1,7 +1,7 @@
 -- Only the contracts of private functions cite these: no public contract and no theorem does.
 -- One event of a site whose packets lie by a table of places, from the site's own numbers.
 -- Assumes nothing.
-use Rattle.std.specs.Prelude.{◌≡◌, Bool, true, false, not, cond, ◌&&◌, ◌||◌, List, [], map, ℕ, ◌+◌, ◌-◌, ◌*◌, ltb, leb, length, replicate}
+use Rattle.std.specs.Prelude.{◌≡◌, Bool, true, false, not, cond, ◌&&◌, ◌||◌, List, [], map, ℕ, ◌+◌, ◌*◌, ltb, leb, length, replicate}
 use Rattle.lists.specs.All.{tab}
 use Rattle.lists.specs.Bytes.{window}
 use Rattle.allotment.specs.Allotment.{total}

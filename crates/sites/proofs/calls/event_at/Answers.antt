@@ -14,7 +14,6 @@ use Rattle.sites.specs.many.Inner.{OneSite, one_site, common_full, lone_in, step
 use Rattle.sites.specs.many.Inner.{report_by, memory_by}
 use Rattle.sites.proofs.many.Lists.{front_length}
 use Rattle.sites.proofs.many.Memories.{cut-store, cut-words, cut-bytes, words_back, bytes_back, table-back}
-use borrow.Author.Rules.{rules}
 use Rattle.sites.proofs.calls.event_at.Goals as goal
 
 pub slice_bounds-turn-end-4 : goal.slice_bounds-turn-end-4

@@ -1,9 +1,7 @@
 -- The machine loads the part of the site; where it is done, the number's places are freed and its slot is taken.
 use mathlib.Core.Path.{◌≡◌, refl, sym, ap, ◌∙◌}
-use Prim.Native.Nat.{◌-◌}
 use native.Mathlib.Omega.{arith}
 use mathlib.Core.Bool.{true, false}
-use borrow.Author.Tests.{not-true, not-false}
 use lib.ListN.{length}
 use lib.Seq.{length-take-le}
 use Rattle.words.proofs.Tests.{hit, skip}
@@ -19,7 +17,6 @@ use Rattle.sites.specs.many.Memory.{memory, store_at, places_in}
 use Rattle.sites.specs.many.Inner.{loaded_by}
 use Rattle.sites.proofs.many.Lists.{front_length}
 use Rattle.sites.proofs.many.Memories.{cut-store, cut-words, cut-bytes, words_back, bytes_back, table-back}
-use borrow.Author.Rules.{rules}
 use Rattle.sites.proofs.calls.load_at.Goals as goal
 
 pub returns-then-not-is_done : goal.returns-then-not-is_done

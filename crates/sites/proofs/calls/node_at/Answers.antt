@@ -5,7 +5,6 @@ use Rattle.machine.specs.Layout.{Store}
 use Rattle.sites.specs.one.Calls.{showing, out_node}
 use Rattle.sites.specs.many.Memory.{memory}
 use Rattle.sites.proofs.many.Memories.{cut-store}
-use borrow.Author.Rules.{rules}
 use Rattle.sites.proofs.calls.node_at.Goals as goal
 
 pub returns : goal.returns

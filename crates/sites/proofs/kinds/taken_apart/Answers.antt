@@ -1,6 +1,5 @@
 use mathlib.Core.Path.{sym, ap}
 use Rattle.sites.specs.many.Inner.{event_part}
-use borrow.Author.Rules.{rules}
 use Rattle.sites.proofs.kinds.taken_apart.Goals as goal
 
 pub returns-in-Send : goal.returns-in-Send

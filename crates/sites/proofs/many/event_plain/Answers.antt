@@ -4,7 +4,6 @@ use Rattle.windows.proofs.Copies.{no_words}
 use Rattle.script.specs.events.Events.{event_at}
 use Rattle.sites.specs.many.Memory.{memory}
 use Rattle.sites.proofs.many.Lines.{line-with}
-use borrow.Author.Rules.{rules}
 use Rattle.sites.proofs.many.event_plain.Goals as goal
 
 pub slice_bounds-none-end : goal.slice_bounds-none-end

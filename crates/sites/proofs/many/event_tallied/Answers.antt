@@ -5,7 +5,6 @@ use Rattle.sites.proofs.one.Laws.{used-list, used-fits}
 use Rattle.script.specs.events.Events.{event_at}
 use Rattle.sites.specs.many.Memory.{memory}
 use Rattle.sites.proofs.many.Lines.{line-with}
-use borrow.Author.Rules.{rules}
 use Rattle.sites.proofs.many.event_tallied.Goals as goal
 
 pub slice_bounds-list-end : goal.slice_bounds-list-end

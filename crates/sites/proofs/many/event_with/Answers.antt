@@ -4,7 +4,6 @@ use Rattle.script.specs.events.Events.{event_at}
 use Rattle.windows.specs.Copies.{windows_in}
 use Rattle.sites.specs.many.Memory.{memory, lent}
 use Rattle.sites.proofs.many.Lines.{no_line, good-line}
-use borrow.Author.Rules.{rules}
 use Rattle.sites.proofs.many.event_with.Goals as goal
 
 pub returns-in-Malformed : goal.returns-in-Malformed

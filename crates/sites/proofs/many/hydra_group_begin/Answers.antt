@@ -1,6 +1,6 @@
 -- The lengths are tested first; then the table's own part is cleared, which stands for a vacant group.
 use mathlib.Core.Path.{◌≡◌, refl, sym, ap, ◌∙◌}
-use Prim.Native.Nat.{ℕ, ◌-◌, ◌+◌}
+use Prim.Native.Nat.{ℕ}
 use mathlib.Core.Bool.{true, false}
 use mathlib.Core.List.{List, ◌++◌}
 use lib.ListN.{length, take, drop, replicate, length-replicate}
@@ -12,7 +12,6 @@ use Rattle.sites.specs.many.Memory.{memory, table_size, group_too_short, group_i
 use Rattle.sites.specs.many.Calls.{begin_answer, begun_table}
 use Rattle.sites.proofs.many.Lists.{front-written}
 use Rattle.sites.proofs.many.Memories.{lengths, begun}
-use borrow.Author.Rules.{rules}
 use Rattle.sites.proofs.many.hydra_group_begin.Goals as goal
 
 pub returns-then-too_few : goal.returns-then-too_few

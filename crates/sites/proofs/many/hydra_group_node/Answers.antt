@@ -1,14 +1,11 @@
 use mathlib.Core.Path.{refl, sym, ap, ◌∙◌}
-use Prim.Native.Nat.{◌-◌}
 use native.Mathlib.Omega.{arith}
-use borrow.Author.Tests.{not-true, not-false}
 use Rattle.words.proofs.Tests.{hit, skip}
 use Rattle.node.specs.Answers.{is_done, number}
 use Rattle.group.proofs.Ground.{number_is}
 use Rattle.sites.specs.many.Memory.{memory}
 use Rattle.sites.specs.many.Calls.{group_node_answer, node_out}
 use Rattle.sites.proofs.many.Groups.{loaded-here, loaded-number, loaded-lengths}
-use borrow.Author.Rules.{rules}
 use Rattle.sites.proofs.many.hydra_group_node.Goals as goal
 
 pub returns-then-not-is_done : goal.returns-then-not-is_done

@@ -1,14 +1,11 @@
 -- The number and the lengths are tested first; then the load goes to its site.
 use mathlib.Core.Path.{sym, ◌∙◌}
-use Prim.Native.Nat.{◌-◌}
 use native.Mathlib.Omega.{arith}
-use borrow.Author.Tests.{not-true, not-false}
 use Rattle.windows.specs.Copies.{windows_in}
 use Rattle.group.proofs.Ground.{number_is}
 use Rattle.sites.specs.many.Memory.{memory}
 use Rattle.sites.proofs.many.Memories.{lengths}
 use Rattle.sites.proofs.many.Groups.{no_number, no_room, any-load}
-use borrow.Author.Rules.{rules}
 use Rattle.sites.proofs.many.load.Goals as goal
 
 pub returns-then-not-is_number : goal.returns-then-not-is_number

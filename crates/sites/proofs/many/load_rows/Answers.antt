@@ -1,13 +1,11 @@
 -- Rows of the right number make a table and go to the load; any others are refused in its order.
 use mathlib.Core.Path.{sym, ◌∙◌, subst}
-use Prim.Native.Nat.{◌-◌}
-use borrow.Author.Tests.{eq-eqb, ne_eqb, not-true, not-false}
+use borrow.Author.Tests.{eq-eqb, ne_eqb}
 use Rattle.site.specs.declared.Table.{Table}
 use Rattle.windows.specs.Copies.{windows_in}
 use Rattle.sites.specs.many.Memory.{memory}
 use Rattle.sites.proofs.many.Groups.{LoadIs}
 use Rattle.sites.proofs.many.Lines.{rows-load, rows-number, rows-room, rows_none}
-use borrow.Author.Rules.{rules}
 use Rattle.sites.proofs.many.load_rows.Goals as goal
 
 pub returns-then-rows-f : goal.returns-then-rows-f

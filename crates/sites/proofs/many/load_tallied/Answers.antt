@@ -10,7 +10,6 @@ use Rattle.sites.specs.one.Calls.{config_from}
 use Rattle.sites.proofs.one.Laws.{used-list, used-fits}
 use Rattle.sites.specs.many.Memory.{memory}
 use Rattle.sites.proofs.many.Lines.{RowsIs, rows_told}
-use borrow.Author.Rules.{rules}
 use Rattle.sites.proofs.many.load_tallied.Goals as goal
 
 pub slice_bounds-list-end : goal.slice_bounds-list-end

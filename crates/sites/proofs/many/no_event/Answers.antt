@@ -1,13 +1,11 @@
 use mathlib.Core.Path.{refl, sym, ap, ◌∙◌}
 use mathlib.Core.Bool.{Bool, ◌||◌}
-use borrow.Author.Tests.{not-true, not-false}
 use lib.Dec.{ltb}
 use lib.ListN.{length}
 use Rattle.words.proofs.Tests.{hit, skip}
 use Rattle.node.specs.Answers.{is_done, number}
 use Rattle.site.specs.Answers.{area_size}
 use Rattle.sites.specs.many.Memory.{memory}
-use borrow.Author.Rules.{rules}
 use Rattle.sites.proofs.many.no_event.Goals as goal
 
 pub returns-then-not-is_done : goal.returns-then-not-is_done

@@ -1,14 +1,11 @@
 -- What is said of the number decides first; an event of a loaded one goes to its site.
 use mathlib.Core.Path.{sym, ap, ◌∙◌}
-use Prim.Native.Nat.{◌-◌}
 use native.Mathlib.Omega.{arith}
-use borrow.Author.Tests.{not-true, not-false}
 use Rattle.node.specs.Answers.{is_done, number}
 use Rattle.windows.specs.Copies.{windows_in}
 use Rattle.group.proofs.Ground.{number_is}
 use Rattle.sites.specs.many.Memory.{memory, lent}
 use Rattle.sites.proofs.many.Groups.{not-loaded, loaded-here, loaded-number, loaded-lengths, loaded-event}
-use borrow.Author.Rules.{rules}
 use Rattle.sites.proofs.many.step.Goals as goal
 
 pub returns-then-not-is_done : goal.returns-then-not-is_done

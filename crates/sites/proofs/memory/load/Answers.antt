@@ -1,11 +1,9 @@
 -- The lengths and the number of rows are tested first; an accepted load writes its day behind the storage.
 use mathlib.Core.Path.{sym, ◌∙◌}
 use native.Mathlib.Omega.{arith}
-use borrow.Author.Tests.{not-true, not-false}
 use Rattle.windows.specs.Copies.{windows_in}
 use Rattle.machine.specs.Layout.{store}
 use Rattle.sites.proofs.one.Laws.{long-words, lacks-load, bad-rows, load-refused, load-done}
-use borrow.Author.Rules.{rules}
 use Rattle.sites.proofs.memory.load.Goals as goal
 
 pub returns-then-lacks : goal.returns-then-lacks

@@ -2,7 +2,6 @@ use mathlib.Core.Path.{sym, ap₂, ◌∙◌}
 use mathlib.Core.Bool.{◌||◌}
 use Rattle.machine.specs.Layout.{store}
 use Rattle.sites.proofs.one.Laws.{no-event-few, no-event-none}
-use borrow.Author.Rules.{rules}
 use Rattle.sites.proofs.memory.no_event.Goals as goal
 
 pub returns-then-short-too_few : goal.returns-then-short-too_few

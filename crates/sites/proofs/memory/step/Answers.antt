@@ -5,7 +5,6 @@ use Rattle.windows.specs.Copies.{windows_in}
 use Rattle.machine.specs.Layout.{store}
 use Rattle.script.specs.declared.Parsed.TheVariants.{Good}
 use Rattle.sites.proofs.one.Laws.{lacking, long-words, in_memory}
-use borrow.Author.Rules.{rules}
 use Rattle.sites.proofs.memory.step.Goals as goal
 
 pub returns-then-lacks : goal.returns-then-lacks

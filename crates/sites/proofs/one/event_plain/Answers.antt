@@ -4,7 +4,6 @@ use Rattle.machine.specs.Layout.{store}
 use Rattle.windows.proofs.Copies.{no_words}
 use Rattle.script.specs.events.Events.{event_at}
 use Rattle.sites.proofs.one.Laws.{with-list}
-use borrow.Author.Rules.{rules}
 use Rattle.sites.proofs.one.event_plain.Goals as goal
 
 pub slice_bounds-none-end : goal.slice_bounds-none-end

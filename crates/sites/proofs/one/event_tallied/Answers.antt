@@ -4,7 +4,6 @@ use Rattle.windows.specs.Copies.{list_of}
 use Rattle.machine.specs.Layout.{store}
 use Rattle.script.specs.events.Events.{event_at}
 use Rattle.sites.proofs.one.Laws.{used-list, used-fits, with-list}
-use borrow.Author.Rules.{rules}
 use Rattle.sites.proofs.one.event_tallied.Goals as goal
 
 pub slice_bounds-list-end : goal.slice_bounds-list-end

@@ -1,10 +1,8 @@
 -- Three numbers that make no event are answered by themselves; an event goes to its step.
 use mathlib.Core.Path.{sym, ◌∙◌}
-use Prim.Native.Nat.{◌-◌}
 use Rattle.windows.specs.Copies.{windows_in}
 use Rattle.machine.specs.Layout.{store}
 use Rattle.sites.proofs.one.Laws.{no-event, an-event}
-use borrow.Author.Rules.{rules}
 use Rattle.sites.proofs.one.event_with.Goals as goal
 
 pub returns-in-Malformed : goal.returns-in-Malformed

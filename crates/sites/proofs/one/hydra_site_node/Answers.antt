@@ -2,7 +2,6 @@ use mathlib.Core.Path.{refl, sym, ap, ◌∙◌}
 use Rattle.node.specs.Answers.{number}
 use Rattle.words.proofs.Tests.{hit, skip}
 use Rattle.sites.specs.one.Calls.{showing_of, out_node_of}
-use borrow.Author.Rules.{rules}
 use Rattle.sites.proofs.one.hydra_site_node.Goals as goal
 
 pub returns-then-lacks : goal.returns-then-lacks

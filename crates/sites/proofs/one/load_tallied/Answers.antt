@@ -1,7 +1,6 @@
 -- The copied windows go to the load as words; the tally is set anew where it is done.
 use mathlib.Core.Path.{refl, sym, ◌∙◌, subst}
 use mathlib.Core.List.{List}
-use Prim.Native.Nat.{◌-◌}
 use Rattle.windows.specs.Copies.{list_of}
 use Rattle.windows.specs.declared.Window.{Window}
 use lib.Seq.{length-take-le}
@@ -9,7 +8,6 @@ use Rattle.machine.specs.Layout.{store}
 use Rattle.words.proofs.Tests.{hit, skip}
 use Rattle.sites.specs.one.Calls.{config_from}
 use Rattle.sites.proofs.one.Laws.{used-list, used-fits, LoadsIs, tally-loaded}
-use borrow.Author.Rules.{rules}
 use Rattle.sites.proofs.one.load_tallied.Goals as goal
 
 pub slice_bounds-list-end : goal.slice_bounds-list-end

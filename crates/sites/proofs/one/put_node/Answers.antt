@@ -1,5 +1,4 @@
 use mathlib.Core.Path.{sym}
-use borrow.Author.Rules.{rules}
 use Rattle.lists.proofs.Chain.{recast}
 use Rattle.machine.specs.Layout.{store}
 use Rattle.sites.proofs.one.Laws.{live-bytes, rest-bytes}

@@ -1,5 +1,4 @@
 use Rattle.sites.proofs.one.Laws.{rest_put}
-use borrow.Author.Rules.{rules}
 use Rattle.sites.proofs.one.put_rest.Goals as goal
 
 pub returns : goal.returns

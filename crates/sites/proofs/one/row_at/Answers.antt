@@ -1,7 +1,6 @@
 use mathlib.Core.Path.{ap, ◌∙◌}
 use Prim.Native.Nat.{ℕ, min, ◌+◌}
 use Rattle.allotment.specs.Allotment.{top_request}
-use borrow.Author.Rules.{rules}
 use Rattle.sites.proofs.one.row_at.Goals as goal
 
 pub returns : goal.returns

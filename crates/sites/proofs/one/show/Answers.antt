@@ -7,7 +7,6 @@ use Rattle.machine.specs.Layout.{store, too_short}
 use Rattle.machine.proofs.Whole.{long-enough, has-place}
 use Rattle.sites.specs.one.Calls.{shown_size}
 use Rattle.sites.proofs.one.Laws.{outside-is, no_room, no_node, shows}
-use borrow.Author.Rules.{rules}
 use Rattle.sites.proofs.one.show.Goals as goal
 
 pub returns-then-short-out : goal.returns-then-short-out

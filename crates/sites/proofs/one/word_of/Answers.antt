@@ -1,6 +1,5 @@
 use lib.ListN.{get_or-eq_default}
 use mathlib.Core.Path.{sym}
-use borrow.Author.Rules.{rules}
 use Rattle.sites.proofs.one.word_of.Goals as goal
 
 pub returns-else-i-s : goal.returns-else-i-s

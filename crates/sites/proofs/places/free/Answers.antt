@@ -1,10 +1,9 @@
-use mathlib.Core.Path.{◌≡◌, refl, ◌∙◌}
-use Prim.Native.Nat.{ℕ, ◌≤◌, ◌-◌}
+use mathlib.Core.Path.{refl, ◌∙◌}
+use Prim.Native.Nat.{ℕ}
 use native.Mathlib.Omega.{arith}
-use lib.ListN.{length, length-set}
-use Rattle.lists.proofs.Maps.{map_to, map-none, map_more, map-end}
+use lib.ListN.{length-set}
+use Rattle.lists.proofs.Maps.{map-none, map_more, map-end}
 use Rattle.group.specs.Places.{freed_entry, freed}
-use borrow.Author.Rules.{rules}
 use Rattle.sites.proofs.places.free.Goals as goal
 
 pub loop-i-init : goal.loop-i-init

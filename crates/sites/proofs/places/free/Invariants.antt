@@ -1,10 +1,8 @@
-use mathlib.Core.Path.{◌≡◌, refl, ◌∙◌}
-use Prim.Native.Nat.{ℕ, ◌≤◌, ◌-◌}
-use native.Mathlib.Omega.{arith}
-use lib.ListN.{length, length-set}
-use Rattle.lists.proofs.Maps.{map_to, map-none, map_more, map-end}
-use Rattle.group.specs.Places.{freed_entry, freed}
-use borrow.Author.Rules.{rules}
+use mathlib.Core.Path.{◌≡◌}
+use Prim.Native.Nat.{◌≤◌}
+use lib.ListN.{length}
+use Rattle.lists.proofs.Maps.{map_to}
+use Rattle.group.specs.Places.{freed_entry}
 use Rattle.sites.proofs.places.free.Given as goal
 
 abbrev pub invariant-loop-i : goal.invariant-loop-i

@@ -1,7 +1,5 @@
 use mathlib.Core.Path.{refl, sym, ◌∙◌}
-use borrow.Author.Tests.{not-true, not-false}
 use Rattle.words.proofs.Tests.{hit, skip}
-use borrow.Author.Rules.{rules}
 use Rattle.sites.proofs.places.free_where.Goals as goal
 
 pub returns-then-not-gone : goal.returns-then-not-gone

@@ -1,11 +1,8 @@
 use mathlib.Core.Path.{◌≡◌}
-use Prim.Native.Nat.{◌≤◌, ◌-◌, ◌+◌, ◌*◌}
-use native.Mathlib.Omega.{arith}
+use Prim.Native.Nat.{◌≤◌, ◌+◌, ◌*◌}
 use mathlib.Core.List.{◌++◌}
 use lib.ListN.{get_or, drop, replicate}
 use Rattle.lists.specs.All.{tab}
-use Rattle.lists.proofs.Laws.{fill_none, fill_more, fill_end}
-use borrow.Author.Rules.{rules}
 use Rattle.sites.proofs.places.part_at.Given as goal
 
 abbrev pub invariant-loop-i : goal.invariant-loop-i

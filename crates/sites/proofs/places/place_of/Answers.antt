@@ -1,10 +1,8 @@
-use mathlib.Core.Path.{◌≡◌, refl}
-use Prim.Native.Nat.{◌≤◌, ◌<◌, ◌-◌, ◌+◌}
+use mathlib.Core.Path.{refl}
+use Prim.Native.Nat.{◌<◌}
 use native.Mathlib.Omega.{arith}
-use lib.ListN.{length, drop}
-use Rattle.text.specs.Read.{before}
+use lib.ListN.{length}
 use Rattle.text.proofs.Pieces.{before_here, before_more, before-end}
-use Rattle.group.specs.Places.{place}
 use Rattle.sites.proofs.many.Lists.{place_is}
 use Rattle.sites.proofs.places.place_of.Goals as goal
 

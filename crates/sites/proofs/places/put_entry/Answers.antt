@@ -1,7 +1,6 @@
 use mathlib.Core.Path.{sym}
 use native.Mathlib.Omega.{arith}
 use lib.Seq.{set_out}
-use borrow.Author.Rules.{rules}
 use Rattle.sites.proofs.places.put_entry.Goals as goal
 
 pub returns-then-places-at : goal.returns-then-places-at

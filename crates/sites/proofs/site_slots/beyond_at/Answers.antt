@@ -1,13 +1,11 @@
 -- A slot that is not taken has nothing; of a taken one the packets of its part are counted.
 use mathlib.Core.Path.{refl, sym, ap}
-use Prim.Native.Nat.{◌-◌}
 use native.Mathlib.Omega.{arith}
 use borrow.Author.Tests.{ne_eqb}
 use Rattle.words.proofs.Tests.{skip}
 use Rattle.group.specs.Group.{beyond}
 use Rattle.sites.specs.many.Memory.{memory, site_slot_in}
 use Rattle.sites.proofs.many.Memories.{taken-beyond}
-use borrow.Author.Rules.{rules}
 use Rattle.sites.proofs.site_slots.beyond_at.Goals as goal
 
 pub returns-then-table-i-ne1 : goal.returns-then-table-i-ne1

@@ -1,9 +1,7 @@
-use mathlib.Core.Path.{◌≡◌, refl, ◌∙◌}
-use Prim.Native.Nat.{ℕ, ◌≤◌, ◌-◌, ◌+◌}
+use mathlib.Core.Path.{refl, ◌∙◌}
+use Prim.Native.Nat.{ℕ}
 use native.Mathlib.Omega.{arith}
-use mathlib.Core.List.{◌++◌}
-use lib.ListN.{length, drop, length-set}
-use Rattle.lists.specs.All.{tab}
+use lib.ListN.{length, length-set}
 use Rattle.lists.proofs.Laws.{fill_none, fill_more, fill_end}
 use Rattle.sites.proofs.many.Lists.{tab-zeros}
 use Rattle.sites.proofs.site_slots.clear.Goals as goal

@@ -1,14 +1,10 @@
-use mathlib.Core.Path.{◌≡◌, sym, ap, ap₂, ◌∙◌}
-use Prim.Native.Nat.{ℕ, ◌≤◌, ◌-◌, ◌+◌, ◌*◌}
-use native.Mathlib.Omega.{arith}
+use mathlib.Core.Path.{◌≡◌}
+use Prim.Native.Nat.{◌≤◌, ◌*◌}
 use mathlib.Core.List.{map}
-use native.Mathlib.Numerals.{add-one}
 use Rattle.lists.specs.All.{tab}
 use Rattle.allotment.specs.Allotment.{total}
 use Rattle.group.specs.Group.{beyond}
 use Rattle.sites.specs.many.Memory.{memory, site_slot_in}
-use Rattle.sites.specs.many.Inner.{common_in}
-use Rattle.sites.proofs.many.Lists.{sum-none, sum_more}
 use Rattle.sites.proofs.site_slots.common.Given as goal
 
 abbrev pub invariant-loop-i : goal.invariant-loop-i

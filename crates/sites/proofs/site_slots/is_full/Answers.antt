@@ -1,11 +1,9 @@
 use mathlib.Core.Path.{sym, ap, ◌∙◌}
 use mathlib.Core.Bool.{Bool, ◌&&◌}
-use borrow.Author.Tests.{not-true, not-false}
 use lib.Dec.{leb}
 use Rattle.group.specs.Group.{common_share}
 use Rattle.sites.specs.many.Memory.{memory}
 use Rattle.sites.specs.many.Inner.{common_in}
-use borrow.Author.Rules.{rules}
 use Rattle.sites.proofs.site_slots.is_full.Goals as goal
 
 pub returns-then-not-is_send : goal.returns-then-not-is_send

@@ -3,11 +3,9 @@ use mathlib.Core.Path.{◌≡◌, sym, ap, ◌∙◌}
 use Prim.Native.Nat.{◌-◌}
 use native.Mathlib.Omega.{arith}
 use mathlib.Core.Bool.{Bool, true, false, not, ◌&&◌}
-use borrow.Author.Tests.{not-true, not-false}
 use Rattle.group.proofs.Ground.{number_is}
 use Rattle.sites.specs.many.Memory.{memory, group_too_short, is_taken, is_loaded}
 use Rattle.sites.proofs.many.Memories.{lengths}
-use borrow.Author.Rules.{rules}
 use Rattle.sites.proofs.site_slots.is_loaded.Goals as goal
 
 pub returns-then-not-is_number : goal.returns-then-not-is_number

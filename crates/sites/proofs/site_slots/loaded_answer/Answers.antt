@@ -1,7 +1,6 @@
 use mathlib.Core.Path.{refl, sym, ◌∙◌}
 use Rattle.words.proofs.Tests.{hit, skip, both}
 use Rattle.sites.specs.many.Memory.{loaded_answer}
-use borrow.Author.Rules.{rules}
 use Rattle.sites.proofs.site_slots.loaded_answer.Goals as goal
 
 pub returns-then-is_loaded : goal.returns-then-is_loaded

@@ -1,9 +1,8 @@
 -- Three words are written, one behind another.
 use mathlib.Core.Path.{◌≡◌, ◌∙◌}
-use Prim.Native.Nat.{◌-◌, ◌+◌, ◌*◌}
+use Prim.Native.Nat.{◌+◌, ◌*◌}
 use native.Mathlib.Omega.{arith}
 use lib.ListN.{length, set, length-set}
-use borrow.Author.Rules.{rules}
 use Rattle.sites.proofs.site_slots.set_site_slot.Goals as goal
 
 pub bounds-table-i-2 : goal.bounds-table-i-2

@@ -8,7 +8,6 @@ use Rattle.words.proofs.Tests.{hit, skip, or-neither}
 use Rattle.lists.specs.Bytes.{window}
 use Rattle.wire.specs.Layout.{packet_size}
 use Rattle.sites.specs.many.Inner.{heard_bytes}
-use borrow.Author.Rules.{rules}
 use Rattle.sites.proofs.turns.heard_bytes.Goals as goal
 
 pub returns-then-p-n : goal.returns-then-p-n

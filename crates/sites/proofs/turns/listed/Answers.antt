@@ -5,7 +5,6 @@ use Rattle.windows.specs.Windows.{list_ok}
 use Rattle.windows.specs.Copies.{windows_in}
 use Rattle.machine.specs.Layout.{store}
 use Rattle.machine.proofs.Whole.{as-header}
-use borrow.Author.Rules.{rules}
 use Rattle.sites.proofs.turns.listed.Goals as goal
 
 pub returns-then-list_ok : goal.returns-then-list_ok

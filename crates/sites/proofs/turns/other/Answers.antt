@@ -9,7 +9,6 @@ use Rattle.machine.specs.declared.StepResult.{StepResult}
 use Rattle.sites.specs.many.Memory.{lent}
 use Rattle.sites.specs.many.Inner.{one_site}
 use Rattle.sites.proofs.many.Events.{other-turn}
-use borrow.Author.Rules.{rules}
 use Rattle.sites.proofs.turns.other.Goals as goal
 
 pub returns : goal.returns

@@ -2,7 +2,6 @@
 use mathlib.Core.Path.{◌≡◌, sym, ap, ap₂, ◌∙◌}
 use mathlib.Core.Bool.{◌&&◌}
 use Prim.Native.Nat.{ℕ, ◌+◌}
-use borrow.Author.Tests.{not-true, not-false}
 use lib.Dec.{leb}
 use lib.ListN.{set}
 use Rattle.node.specs.Answers.{is_done, number}
@@ -18,7 +17,6 @@ use Rattle.group.specs.Places.{entry}
 use Rattle.group.specs.Group.{own_share}
 use Rattle.sites.specs.many.Inner.{group_send_answer}
 use Rattle.sites.proofs.many.Sends.{send-answer, send-refused, send-crowded, send-done, bytes-sent, area-sent}
-use borrow.Author.Rules.{rules}
 use Rattle.sites.proofs.turns.send.Goals as goal
 
 pub returns-then-not-is_done : goal.returns-then-not-is_done

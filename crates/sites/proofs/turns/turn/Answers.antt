@@ -10,7 +10,6 @@ use Rattle.sites.specs.many.Inner.{one_site, own_area_of, send_number, send_stor
 use Rattle.sites.specs.declared.Part.{Part}
 use Rattle.sites.proofs.many.Events.{DayAnswer, room, whole, whole_is, neither-is, room-turn, send-turn, hear-turn, unfull}
 use Rattle.node.specs.Answers.{number}
-use borrow.Author.Rules.{rules}
 use Rattle.sites.proofs.turns.turn.Goals as goal
 
 pub returns-then-too_few : goal.returns-then-too_few
