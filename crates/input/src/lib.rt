@@ -57,32 +57,25 @@ fn read_input<R: Read>(from: &mut R, buffer: &mut [u8]) -> Input
 }
 
 // Whether a program was given arguments: one stands behind its name. It need not fit anywhere.
-fn has_arguments<E: Env>(env: &E) -> bool {
-    !matches!(env.arg(1, &mut []), Err(FillError::NotPresent))
+fn has_arguments(rt: &HostRuntime) -> bool {
+    !matches!(rt.arg(1, &mut []), Err(FillError::NotPresent))
 }
 
-// The script of a program that takes no arguments, of its standard input. It writes `usage` to its standard error if there are some, and
-// `unread` if a read failed.
-pub fn script<E: Env, R: Read, P: Print>(
-    env: &E,
-    from: &mut R,
-    to: &P,
-    buffer: &mut [u8],
-    usage: &[u8],
-    unread: &[u8],
-) -> Input
+// The script of a program that takes no arguments, from standard input. It writes `usage` to standard error if there are some, and `unread`
+// if a read failed.
+pub fn script(rt: &HostRuntime, buffer: &mut [u8], usage: &[u8], unread: &[u8]) -> Input
     ensures { IsPrefixLen result.length buffer.new }
 {
-    if has_arguments(env) {
-        let _ = to.write_all(usage);
+    if has_arguments(rt) {
+        let _ = rt.stderr().write_all(usage);
         return Input {
             length: 0,
             failed: true,
         };
     }
-    let input = read_input(from, buffer);
+    let input = read_input(&mut rt.stdin(), buffer);
     if input.failed {
-        let _ = to.write_all(unread);
+        let _ = rt.stderr().write_all(unread);
     }
     input
 }

@@ -9,8 +9,6 @@ fn main(rt: HostRuntime) {
     let mut script = [0u8; 40001];
     let input = input::script(
         &rt,
-        &mut rt.stdin(),
-        &rt.stderr(),
         &mut script,
         b"replay 2.0.0: takes no arguments and reads a script from standard input (replay < SCRIPT), nothing was run\n",
         b"replay: standard input could not be read, nothing was run\n",
