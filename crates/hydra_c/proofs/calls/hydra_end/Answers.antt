@@ -1,0 +1,7 @@
+use Rattle.hydra_c.proofs.calls.hydra_end.Goals as goal
+
+pub returns-clause-value : goal.returns-clause-value
+returns-clause-value c = c.hydra_end.ensures.value
+
+pub returns-clause-area_after : goal.returns-clause-area_after
+returns-clause-area_after c = c.hydra_end.ensures.area_after

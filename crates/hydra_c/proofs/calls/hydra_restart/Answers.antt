@@ -1,0 +1,7 @@
+use Rattle.hydra_c.proofs.calls.hydra_restart.Goals as goal
+
+pub returns-clause-value : goal.returns-clause-value
+returns-clause-value c = c.hydra_restart.ensures.value
+
+pub returns-clause-area_after : goal.returns-clause-area_after
+returns-clause-area_after c = c.hydra_restart.ensures.area_after

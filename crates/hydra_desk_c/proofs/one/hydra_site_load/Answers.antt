@@ -1,0 +1,4 @@
+use Rattle.hydra_desk_c.proofs.one.hydra_site_load.Goals as goal
+
+pub returns : goal.returns
+returns c = c.hydra_site_load.ensures

@@ -1,0 +1,7 @@
+use Rattle.hydra_desk_c.proofs.one.hydra_site_node.Goals as goal
+
+pub returns-clause-value : goal.returns-clause-value
+returns-clause-value c = c.hydra_site_node.ensures.value
+
+pub returns-clause-out_after : goal.returns-clause-out_after
+returns-clause-out_after c = c.hydra_site_node.ensures.out_after
