@@ -16,7 +16,7 @@ use Rattle.allotment.specs.Allotment.{free}
 use Rattle.allotment.specs.Model.{Schedule}
 use Rattle.node.specs.Model.{Epoch}
 use Rattle.node.specs.Model.{Node}
-use Rattle.node.specs.declared.Answer.TheVariants.{Done}
+use Rattle.node.specs.Answers.{Done}
 use Rattle.node.proofs.Laws.{Begun, begins}
 use Rattle.node.proofs.Made.{given}
 use Rattle.node.proofs.Tested.{start-asks}

@@ -8,7 +8,7 @@ use native.Mathlib.Omega.{arith}
 use lib.ListN.{get_or}
 use Rattle.node.specs.Answers.{is_done}
 use Rattle.node.specs.Figures.{is_waiting}
-use Rattle.node.specs.declared.Answer.TheVariants.{Done}
+use Rattle.node.specs.Answers.{Done}
 use Rattle.node.proofs.Answers.{done-is}
 use Rattle.node.proofs.Made.{restarted}
 use Rattle.site.specs.Members.{setup_of, header_of, member_at, down_member}

@@ -8,7 +8,7 @@ use Rattle.words.specs.Bits.{size, is_in}
 use Rattle.allotment.specs.Allotment.{owner_of}
 use Rattle.membership.specs.requests.Requests.{entry_of}
 use Rattle.node.specs.Model.{Node}
-use Rattle.node.specs.declared.Answer.TheVariants.{Done}
+use Rattle.node.specs.Answers.{Done}
 use Rattle.site.specs.Members.{member_at, is_live}
 use Rattle.site.specs.Load.{load_answer, loaded_site}
 use Rattle.site.specs.Run.{run}

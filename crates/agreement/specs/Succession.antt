@@ -8,7 +8,7 @@ use Rattle.allotment.specs.Allotment.{free, owner_of}
 use Rattle.allotment.specs.Model.{Schedule}
 use Rattle.node.specs.Figures.{sending}
 use Rattle.node.specs.Model.{Node}
-use Rattle.node.specs.declared.Answer.TheVariants.{Done}
+use Rattle.node.specs.Answers.{Done}
 use Rattle.site.specs.Load.{load_answer}
 use Rattle.node.specs.declared.Config.{Config}
 use Rattle.site.specs.declared.Table.{Table}

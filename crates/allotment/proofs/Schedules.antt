@@ -7,7 +7,7 @@ use lib.ListN.{length, get_or, replicate}
 use lib.Seq.{ext_get_or}
 use Rattle.lists.proofs.Laws.{get_d-zeros}
 use Rattle.allotment.specs.Model.{Schedule}
-use Rattle.allotment.specs.Allotment.{owners_of, owner_of, schedule_of, free, targets, allotted, next}
+use Rattle.allotment.specs.Allotment.{owners_of, owner_of, schedule_of, free}
 
 -- a schedule made of a list has the list's owners
 pub owners-made : (l : List ℕ) → owners_of (schedule_of l) ≡ l

@@ -6,6 +6,7 @@ use mathlib.Core.List.{List}
 use mathlib.Core.Logic.{◌≢◌, ◌⊎◌, inl, inr, ⊎_elim}
 use Prim.Native.Nat.{ℕ, min, ◌+◌, ◌-◌, ◌≤◌, ◌<◌}
 use native.Mathlib.Omega.{arith}
+use mir.Val.{bool_byte}
 use borrow.Author.Tests.{ltb-true, ltb-false, lt-ltb, le-ltb, eqb-true, eq-eqb, ne_eqb}
 use lib.Dec.{eqb, ltb}
 use lib.ListN.{length, get_or, set}
@@ -17,6 +18,23 @@ use Rattle.allotment.specs.declared.Deal.{Deal}
 use Rattle.allotment.specs.Allotment.{Draft}
 use Rattle.allotment.specs.Allotment.{deal_one, deal_round, given, below_target, better, chosen, holding, give_to, fill_one, filled, Least}
 use Rattle.allotment.proofs.Laws.{lacks-at, chosen-least}
+
+-- one more or one less where a test holds: by its number, which is added or taken away without a branch
+pub one-more : (t : Bool) (x b : ℕ) → b ≡ bool_byte t → x + b ≡ cond t (x + 1) x
+one-more true x b e = ap (λ (y : ℕ). x + y) e
+one-more false x b e = let z : b ≡ 0 = e in omega arith
+
+pub one-less : (t : Bool) (x b : ℕ) → b ≡ bool_byte t → x - b ≡ cond t (x - 1) x
+one-less true x b e = ap (λ (y : ℕ). x - y) e
+one-less false x b e = let z : b ≡ 0 = e in omega arith
+
+pub more-fits : (t : Bool) (x b y : ℕ) → b ≡ bool_byte t → (t ≡ true → x < y) → x < 256 → y < 256 → x + b < 256
+more-fits true x b y e h p q = let z : b ≡ 1 = e in let r = h refl in omega arith
+more-fits false x b y e h p q = let z : b ≡ 0 = e in omega arith
+
+pub less-fits : (t : Bool) (x b : ℕ) → b ≡ bool_byte t → (t ≡ true → 0 < x) → b ≤ x
+less-fits true x b e h = let z : b ≡ 1 = e in let r = h refl in omega arith
+less-fits false x b e h = let z : b ≡ 0 = e in omega arith
 
 -- the steps behind K, where they change nothing, need not be taken
 pub iter-slots : (f : ℕ → Draft → Draft) (x : Draft) (K : ℕ) → ((i : ℕ) (y : Draft) → K ≤ i → f i y ≡ y) → iter (min K 80) f x ≡ iter 80 f x

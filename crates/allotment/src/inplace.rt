@@ -8,26 +8,26 @@ ghost use Rattle.allotment.specs.Allotment.{allotted};
 ghost use Rattle.allotment.specs.InPlace.{next_in};
 ghost use Rattle.allotment.specs.Inner.{lowest_of, node_kept, own_low, own_high, low_bit, high_bit, FirstFrom};
 
-use crate::{Few, Share, node_index, nodes, one_more, targets, turn};
+use crate::{Few, Share, node_index, nodes, targets, turn};
 
 // The lowest ones of a word, at most so many. Goes from one bit that is set to the next.
 fn lowest(w: u64, most: u8) -> Few
     ensures { result ≡ record { kept = lowest_of 64 w most; left = most - how_many 64 (has_bit w) } }
 {
     let mut rest = w;
-    let mut kept: u64 = 0;
+    let mut kept = 0;
     let mut left = most;
-    let mut at: usize = 0;
+    let mut at = 0;
     while rest != 0 {
         if left == 0 {
             return Few { kept, left };
         }
-        let zeros = u64::trailing_zeros(rest);
-        at = at + zeros as usize;
-        kept = kept | (1u64 << at);
-        left = left - 1;
+        let zeros = rest.trailing_zeros();
+        at += zeros as usize;
+        kept |= 1 << at;
+        left -= 1;
         rest = (rest >> zeros) >> 1;
-        at = at + 1;
+        at += 1;
     }
     Few { kept, left }
 }
@@ -50,10 +50,7 @@ fn own_low(w: u64, taken: u64, k: u32) -> u64
     ensures { result ≡ own_low w taken k }
 {
     let own = w ^ (w & taken);
-    if k < 64 {
-        return own & ((1u64 << k) - 1);
-    }
-    own
+    if k < 64 { own & ((1 << k) - 1) } else { own }
 }
 
 // The same of a second word, whose bit 0 is that of the slot at index 64.
@@ -65,16 +62,17 @@ fn own_high(w: u16, taken: u16, k: u32) -> u16
     }
     let own = w ^ (w & taken);
     if k < 80 {
-        return own & ((1u16 << (k - 64)) - 1);
+        own & ((1 << (k - 64)) - 1)
+    } else {
+        own
     }
-    own
 }
 
 // The bit of a slot in a first word.
 fn low_bit(slot: usize) -> u64
     ensures { result ≡ low_bit slot }
 {
-    if slot < 64 { 1u64 << slot } else { 0 }
+    if slot < 64 { 1 << slot } else { 0 }
 }
 
 // And in a second one.
@@ -84,10 +82,7 @@ fn high_bit(slot: usize) -> u16
     if slot < 64 {
         return 0;
     }
-    if slot < 80 {
-        return 1u16 << (slot - 64);
-    }
-    0
+    if slot < 80 { 1 << (slot - 64) } else { 0 }
 }
 
 // The first bit of a word from a place on; 64 where it has none.
@@ -99,7 +94,7 @@ fn next_bit(w: u64, from: usize) -> usize
     if rest == 0 {
         return 64;
     }
-    from + u64::trailing_zeros(rest) as usize
+    from + rest.trailing_zeros() as usize
 }
 
 // The first slot from a place on that two words have; 80 or more where they have none.
@@ -128,36 +123,33 @@ fn allot(s: &mut [u8], at: usize, to: usize, target: [u8; 32], n: usize, k: u32)
         (masks_bytes (masks_of (allotted target (owners_in (masks_in s.old at)) k))) }
 {
     let rows = masks::rows_used(s, at, n);
-    let mut low = [0u64; 32];
-    let mut high = [0u16; 32];
-    let mut held = [0u8; 32];
-    let mut taken_low: u64 = 0;
-    let mut taken_high: u16 = 0;
-    for i in 0..rows {
+    let mut low = [0; 32];
+    let mut high = [0; 32];
+    let mut held = [0; 32];
+    let mut taken_low = 0;
+    let mut taken_high = 0;
+    for (i, most) in target[..rows].iter().enumerate() {
         let a = masks::low_at(s, at, i);
         let b = masks::high_at(s, at, i);
         let first = own_low(a, taken_low, k);
         let second = own_high(b, taken_high, k);
-        let share = keep_node(first, second, target[i]);
-        let kept_low = share.low;
-        let kept_high = share.high;
-        low[i] = kept_low;
-        high[i] = kept_high;
+        let share = keep_node(first, second, *most);
+        low[i] = share.low;
+        high[i] = share.high;
         held[i] = share.held;
-        taken_low = taken_low | a;
-        taken_high = taken_high | b;
+        taken_low |= a;
+        taken_high |= b;
     }
-    let free_low = own_low(18446744073709551615, taken_low, k);
-    let free_high = own_high(65535, taken_high, k);
+    let free_low = own_low(u64::MAX, taken_low, k);
+    let free_high = own_high(u16::MAX, taken_high, k);
     let mut slot = next_slot(free_low, free_high, 0);
     let mut j = turn(slot, &target, &held, n, 0, 0);
     while (slot < 80) & (j != 0) {
         let i = node_index(j);
         let has = held[i];
-        let top = target[i];
-        low[i] = low[i] | low_bit(slot);
-        high[i] = high[i] | high_bit(slot);
-        held[i] = one_more(has, top);
+        low[i] |= low_bit(slot);
+        high[i] |= high_bit(slot);
+        held[i] = has + 1;
         slot = next_slot(free_low, free_high, slot + 1);
         j = turn(slot, &target, &held, n, has, i + 1);
     }

@@ -1,7 +1,7 @@
 // Layer 1: the allotment of slots (specification, 4 Allotment; the paper's section 4.3).
 #![tactic(auto)]
 
-ghost use Rattle.std.specs.Prelude.{◌≡◌, true, cond, ℕ, min, ◌≤◌, ◌<◌, ◌+◌, ◌-◌, ltb, get_or};
+ghost use Rattle.std.specs.Prelude.{◌≡◌, cond, ℕ, min, ◌≤◌, ◌<◌, ◌+◌, ◌-◌, ltb, get_or};
 ghost use Rattle.lists.specs.All.{iter};
 ghost use Rattle.allotment.specs.Allotment.{top_slots, ask, asks, deal_round, dealt, targets};
 ghost use Rattle.allotment.specs.Allotment.{better, chosen, holding, total};
@@ -54,36 +54,11 @@ fn ask(members: u32, requests: &[u8; 32], n: u32, i: usize) -> u8
 fn asks(members: u32, requests: [u8; 32], n: u32) -> [u8; 32]
     ensures { result ≡ asks n members requests }
 {
-    let top = nodes(n);
-    let mut l = [0u8; 32];
-    for i in 0..top {
-        l[i] = ask(members, &requests, n, i);
+    let mut l = [0; 32];
+    for (i, x) in l.iter_mut().enumerate() {
+        *x = ask(members, &requests, n, i);
     }
     l
-}
-
-// One more than x, which is below the top.
-fn one_more(x: u8, top: u8) -> u8
-    requires { x < top }
-    ensures { result ≡ x + 1 }
-{
-    x + 1
-}
-
-// One more than x where the test holds, which is only below the top; else x.
-fn one_more_if(t: bool, x: u8, top: u8) -> u8
-    requires { t ≡ true → x < top }
-    ensures { result ≡ cond t (x + 1) x }
-{
-    if t { x + 1 } else { x }
-}
-
-// One less than x where the test holds, which is only above 0; else x.
-fn one_less_if(t: bool, x: u32) -> u32
-    requires { t ≡ true → 0 < x }
-    ensures { result ≡ cond t (x - 1) x }
-{
-    if t { x - 1 } else { x }
 }
 
 // Once over the nodes: a slot to each, unless it has its request or none is left. Behind the first n no node wants one.
@@ -93,12 +68,10 @@ fn deal_round(d: Deal, wanted: [u8; 32], n: usize) -> Deal
 {
     let mut targets = d.targets;
     let mut left = d.left;
-    for i in 0..n {
-        let has = targets[i];
-        let top = wanted[i];
-        let gets = (0 < left) & (has < top);
-        targets[i] = one_more_if(gets, has, top);
-        left = one_less_if(gets, left);
+    for (i, top) in wanted[..n].iter().enumerate() {
+        let gets = (0 < left) & (targets[i] < *top);
+        targets[i] += u8::from(gets);
+        left -= u32::from(gets);
     }
     Deal { targets, left }
 }
@@ -107,14 +80,14 @@ fn deal_round(d: Deal, wanted: [u8; 32], n: usize) -> Deal
 pub fn slots(k: u32) -> u32
     ensures { result ≡ min k top_slots }
 {
-    if k < SLOTS { k } else { SLOTS }
+    k.min(SLOTS)
 }
 
 // The nodes of a site, at most 32.
 fn nodes(n: u32) -> usize
     ensures { result ≡ min n 32 }
 {
-    if n < 32 { n as usize } else { 32 }
+    n.min(32) as usize
 }
 
 // The dealing: rounds until none is left or one dealt nothing, at most as many as the greatest request has.
@@ -136,14 +109,13 @@ fn deal_all(wanted: [u8; 32], k: u32, n: usize) -> Deal
     s
 }
 
-// What all ask for together. Behind the first n no node wants a slot.
-fn total(wanted: [u8; 32], n: usize) -> u32
-    requires { (n ≤ 32) × ((i : ℕ) → n ≤ i → get_or wanted i 0 ≡ 0) }
+// What all ask for together.
+fn total(wanted: [u8; 32]) -> u32
     ensures { result ≡ total wanted }
 {
-    let mut sum: u32 = 0;
-    for i in 0..n {
-        sum = sum + (wanted[i] as u32);
+    let mut sum = 0;
+    for x in &wanted {
+        sum += u32::from(*x);
     }
     sum
 }
@@ -153,32 +125,22 @@ pub fn targets(members: u32, requests: [u8; 32], n: u32, k: u32) -> [u8; 32]
     ensures { result ≡ targets n k members requests }
 {
     let wanted = asks(members, requests, n);
-    let top = nodes(n);
-    if total(wanted, top) <= slots(k) {
+    if total(wanted) <= slots(k) {
         return wanted;
     }
-    let d = deal_all(wanted, k, top);
-    d.targets
+    deal_all(wanted, k, nodes(n)).targets
 }
 
 // Where the node of number j stands; 0 for a number that no node has.
+// Kept: nobody is number 0, here, in `choose` and in `turn`, as the definition `chosen` of the theorems has it.
 fn node_index(j: u8) -> usize
     ensures { (result < 32) × (j ≤ 32 → result ≡ j - 1) }
 {
-    if j == 0 {
-        return 0;
+    if j <= 32 {
+        usize::from(j.saturating_sub(1))
+    } else {
+        0
     }
-    if 32 < j {
-        return 0;
-    }
-    (j - 1) as usize
-}
-
-// The first where the test holds, else the second.
-fn pick(t: bool, a: u8, b: u8) -> u8
-    ensures { result ≡ cond t a b }
-{
-    if t { a } else { b }
 }
 
 // Of the first n nodes the one below its target with the fewest slots, the lowest number on a tie; 0 where there is none.
@@ -186,16 +148,14 @@ fn choose(target: &[u8; 32], held: &[u8; 32], n: usize) -> u8
     requires { n ≤ 32 }
     ensures { result ≡ iter n (better target.now (holding held.now)) 0 }
 {
-    let mut best: u8 = 0;
-    let mut least: u8 = 0;
-    for i in 0..n {
-        let has = held[i];
-        let may = has < target[i];
-        let first = best == 0;
-        let fewer = has < least;
-        let wins = may & (first | fewer);
-        best = pick(wins, (i + 1) as u8, best);
-        least = pick(wins, has, least);
+    let mut best = 0;
+    let mut least = 0;
+    for (i, has) in held[..n].iter().enumerate() {
+        let wins = (*has < target[i]) & ((best == 0) | (*has < least));
+        if wins {
+            best = (i + 1) as u8;
+            least = *has;
+        }
     }
     best
 }
@@ -211,6 +171,7 @@ fn turn(slot: usize, target: &[u8; 32], held: &[u8; 32], n: usize, level: u8, fr
     if 80 <= slot {
         return 0;
     }
+    // Kept: `from` may lie behind n, where a slice of either list from there on is none.
     for i in from..n {
         let has = held[i];
         if (has == level) & (has < target[i]) {

@@ -17,8 +17,8 @@ use Rattle.node.specs.Answers.{is_done}
 use Rattle.node.specs.Figures.{flags_ok, is_last}
 use Rattle.node.specs.Close.{determines, new_schedule}
 use Rattle.node.specs.Model.{Node}
-use Rattle.node.specs.declared.Answer.{Answer}
-use Rattle.node.specs.declared.Answer.TheVariants.{Done, OutOfRange, NoSuchNode, NotLive}
+use Rattle.node.specs.Answers.{Answer}
+use Rattle.node.specs.Answers.{Done, OutOfRange, NoSuchNode, NotLive}
 use Rattle.area.specs.Area.{decoded}
 use Rattle.site.specs.Members.{setup_of, outside}
 use Rattle.node.specs.declared.Config.{Config}

@@ -10,8 +10,8 @@ use lib.Dec.{eqb, leb}
 use lib.ListN.{get_or}
 use Rattle.words.proofs.Tests.{and_left, and_right, never, read_same}
 use Rattle.node.specs.Answers.{is_done}
-use Rattle.node.specs.declared.Answer.{Answer}
-use Rattle.node.specs.declared.Answer.TheVariants.{NoSuchNode, WrongPhase, NotLive, TooManyPackets}
+use Rattle.node.specs.Answers.{Answer}
+use Rattle.node.specs.Answers.{NoSuchNode, WrongPhase, NotLive, TooManyPackets}
 use Rattle.wire.specs.Layout.{packet_size}
 use Rattle.host.specs.Calls.{out_send, sending_of, after_hear, after_take, after_want, after_restart}
 use Rattle.site.specs.Counts.{top_sent, sent_of, one_more}

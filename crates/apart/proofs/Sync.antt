@@ -13,7 +13,7 @@ use native.Mathlib.Nat.{not-suc-le-zero}
 use Rattle.words.proofs.Tests.{hit, same_or_not}
 use Rattle.node.specs.Figures.{is_last}
 use Rattle.node.specs.declared.Config.{Config}
-use Rattle.node.specs.declared.Answer.{Answer}
+use Rattle.node.specs.Answers.{Answer}
 use Rattle.site.specs.declared.Event.TheVariants.{Close, End}
 use Rattle.boxes.specs.fleet.Fleet.{Fleet, Act, close_box, end_box, next_fleet, fleet_after, fleet_run, fleet_answers}
 use Rattle.apart.specs.Apart.{negotiation, last_phase, acting_box, tick_box, between, sorted, between_answers, sorted_answers}

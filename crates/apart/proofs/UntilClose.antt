@@ -16,8 +16,8 @@ use Rattle.node.specs.Negotiation.{heard_node}
 use Rattle.node.specs.Steps.{wanted_node}
 use Rattle.node.specs.declared.Setup.{Setup}
 use Rattle.node.specs.Model.{Node}
-use Rattle.node.specs.declared.Answer.{Answer}
-use Rattle.node.specs.declared.Answer.TheVariants.{Done, OutOfRange, NoSuchNode, WrongPhase, NotDown}
+use Rattle.node.specs.Answers.{Answer}
+use Rattle.node.specs.Answers.{Done, OutOfRange, NoSuchNode, WrongPhase, NotDown}
 use Rattle.node.proofs.Answers.{done-is}
 use Rattle.node.proofs.Laws as law
 use Rattle.range.specs.Range.{in_range}

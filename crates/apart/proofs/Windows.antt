@@ -11,7 +11,7 @@ use Rattle.words.proofs.Tests.{never}
 use Rattle.allotment.specs.Allotment.{top_request}
 use Rattle.node.specs.Answers.{is_done}
 use Rattle.node.specs.Steps.{wanted_node}
-use Rattle.node.specs.declared.Answer.TheVariants.{Done, OutOfRange, NoSuchNode, NotANode, NotLive}
+use Rattle.node.specs.Answers.{Done, OutOfRange, NoSuchNode, NotANode, NotLive}
 use Rattle.area.specs.Area.{encoded, decoded, valid}
 use Rattle.host.specs.Calls.{wanting_of, after_want, after_end}
 use Rattle.site.specs.Members.{outside}

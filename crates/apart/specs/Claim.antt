@@ -8,7 +8,7 @@
 -- Assumes nothing.
 use Rattle.std.specs.Prelude.{◌≡◌, Bool, true, false, not, cond, ◌&&◌, ◌≢◌, List, [], ◌∷◌, ◌++◌, ℕ, ◌+◌, ◌*◌, ◌/◌, ◌≤◌, ◌<◌, eqb, length, get_or}
 use Rattle.words.specs.Bits.{is_in}
-use Rattle.node.specs.declared.Answer.TheVariants.{Done, OwnPacket, WrongSender}
+use Rattle.node.specs.Answers.{Done, OwnPacket, WrongSender}
 use Rattle.area.specs.Area.{encoded, decoded, valid}
 use Rattle.host.specs.Calls.{hearing_of, taking_of, ground_size, closing_of, ending_of, slots_size, slots_answer}
 use Rattle.host.specs.Slots.{slot_shown}

@@ -4,16 +4,18 @@ use mathlib.Core.Path.{◌≡◌, refl, sym, ap}
 use mathlib.Core.Bool.{Bool, true, false, cond, ◌&&◌}
 use mathlib.Core.List.{List}
 use Prim.Native.Nat.{ℕ}
-use borrow.Author.Tests.{eq-eqb, eqb-true}
+use borrow.Author.Tests.{eq-eqb, ne_eqb, eqb-true}
 use lib.Dec.{eqb}
 use lib.ListN.{length}
 use Rattle.lists.specs.All.{same}
-use Rattle.words.proofs.Tests.{hit, and_left, and_right}
+use Rattle.words.proofs.Tests.{and_left, and_right}
 use Rattle.node.specs.Core.{core_of}
 use Rattle.range.specs.Range.{in_range}
 use Rattle.area.specs.Area.{node_size, decoded, encoded, valid}
-use Rattle.area.specs.Steps.{no_node, area_read}
-use Rattle.area.specs.declared.AreaRead.{AreaRead}
+use Rattle.area.specs.Steps.{area_read}
+use Rattle.node.specs.declared.Core.{Core}
+use Rattle.std.specs.Prelude.{◌≢◌, Option, Some, None, is_some}
+use Rattle.std.proofs.lemmas.Option.{none-some, same_Some}
 
 -- an area of its length is valid where its node is within the ranges and these are its bytes
 pub right-size : (a : List ℕ) → length a ≡ node_size → (in_range (decoded a) && same (encoded (decoded a)) a) ≡ valid a
@@ -30,14 +32,23 @@ unfolding valid
 range-of a v = and_left (in_range (decoded a)) (same (encoded (decoded a)) a)
     (and_right (eqb (length a) node_size) (in_range (decoded a) && same (encoded (decoded a)) a) v)
 
--- an area that was read is ok where it is valid, and has its node then
-pub opened-ok : (a : List ℕ) → (area_read a).ok ≡ valid a
-unfolding valid
-opened-ok a = go (eqb (length a) node_size) (in_range (decoded a) && same (encoded (decoded a)) a)
+-- an area is read where it is valid alone, and gives its node then
+pub opened-ok : (a : List ℕ) → is_some (area_read a) ≡ valid a
+opened-ok a = go (valid a)
   where
-    go : (t v : Bool) → (cond t (record { ok = t && v; core = core_of (decoded a) }) no_node).ok ≡ (t && v)
-    go true v = refl
-    go false v = refl
+    go : (t : Bool) → is_some (cond t (Some (core_of (decoded a))) None) ≡ t
+    go true = refl
+    go false = refl
 
-pub opened-core : (a : List ℕ) → valid a ≡ true → (area_read a).core ≡ core_of (decoded a)
-opened-core a v = ap (λ (o : AreaRead). o.core) (hit _ _ _ (eq-eqb _ _ (size_of a v)))
+pub opened-core : (a : List ℕ) (c : Core) → area_read a ≡ Some c → c ≡ core_of (decoded a)
+opened-core a c e = go (valid a) e
+  where
+    go : (t : Bool) → cond t (Some (core_of (decoded a))) None ≡ Some c → c ≡ core_of (decoded a)
+    go true f = sym (same_Some _ _ f)
+    go false f = absurd (none-some _ f)
+
+-- an area of another length is none
+pub unsized : (a : List ℕ) → length a ≢ node_size → None ≡ area_read a
+unfolding valid
+unsized a h =
+    sym (ap (λ (t : Bool). cond (t && (in_range (decoded a) && same (encoded (decoded a)) a)) (Some (core_of (decoded a))) None) (ne_eqb _ _ h))

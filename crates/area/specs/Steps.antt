@@ -1,22 +1,15 @@
 -- What the calls on an area are made of: an area read, and a step written to it. No contract of a call cites this.
 -- Assumes nothing.
-use Rattle.std.specs.Prelude.{Bool, false, cond, ◌&&◌, List, ℕ, eqb, ltb, length}
+use Rattle.std.specs.Prelude.{Bool, Option, Some, None, cond, ◌&&◌, List, ℕ, eqb, ltb, length}
 use Rattle.lists.specs.Bytes.{written}
 use Rattle.masks.specs.Slots.{masks_of}
 use Rattle.masks.specs.Bytes.{masks_bytes, fit_read}
 use Rattle.range.specs.Range.{in_range}
-use Rattle.node.specs.Figures.{no_config}
-use Rattle.node.specs.Begin.{waiting}
 use Rattle.node.specs.Core.{core_of, bare}
 use Rattle.node.specs.InPlace.{moved_in}
 use Rattle.node.specs.declared.Core.{Core}
 use Rattle.node.specs.declared.Move.{Move}
 use Rattle.area.specs.Area.{node_size, at_schedule, at_determined, front_of, decoded, valid}
-use Rattle.area.specs.declared.AreaRead.{AreaRead}
-
--- what stands for an area of another length: no node, and a blank one in its place
-abbrev pub no_node : AreaRead
-no_node = record { ok = false; core = core_of (waiting (record { node = 0; config = no_config }) 0 0 0) }
 
 -- whether the node but for its schedules is within the ranges, and both schedules are, by their masks
 abbrev pub area_fits : List ℕ → Core → Bool
@@ -25,9 +18,9 @@ area_fits a c =
     && (fit_read a at_schedule (cond (ltb 0 c.version) c.setup.config.slots 0) c.setup.config.nodes
     && fit_read a at_determined (cond c.updated c.setup.config.slots 0) c.setup.config.nodes)
 
--- an area opened: whether it is what the library writes, and its node but for the schedules
-abbrev pub area_read : List ℕ → AreaRead
-area_read a = cond (eqb (length a) node_size) (record { ok = valid a; core = core_of (decoded a) }) no_node
+-- an area opened: its node but for the schedules, where it is what the library writes
+abbrev pub area_read : List ℕ → Option Core
+area_read a = cond (valid a) (Some (core_of (decoded a))) None
 
 -- a step: the schedules moved, and the next node's bytes before them
 abbrev pub area_stepped : Core → Move → Core → List ℕ → List ℕ

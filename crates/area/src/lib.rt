@@ -8,20 +8,13 @@ ghost use Rattle.masks.specs.Bytes.{own_read};
 ghost use Rattle.node.specs.Core.{core_of, bare};
 ghost use Rattle.wire.specs.Layout.{schedule_written};
 ghost use Rattle.area.specs.Area.{node_size, at_schedule, small_of, front_of, decoded_with};
-ghost use Rattle.area.specs.Steps.{no_node, area_fits, area_read, area_stepped, area_holding};
+ghost use Rattle.area.specs.Steps.{area_fits, area_read, area_stepped, area_holding};
 
 use masks::NodeSlots;
 use node::{Config, Core, Move, Round, Setup};
 
 // The bytes of a node's area.
 pub const AREA: usize = 828;
-
-// The node in an area but for its schedules, and whether these are its bytes and it is within the ranges.
-#[derive(Clone, Copy)]
-pub struct AreaRead {
-    pub ok: bool,
-    pub core: Core,
-}
 
 // Where each part of the area starts: the words,
 const NODE: u32 = 0;
@@ -70,26 +63,18 @@ const SCHEDULE: u32 = 124;
 
 const DETERMINED: u32 = 476;
 
-// The 32 bytes from a place on. All are there, so no byte is tested: `lists::short` has two ways, which the compiler joins byte by byte.
-fn list_at(s: &[u8], at: u32) -> [u8; 32]
-    requires { at + 32 ≤ length s.now }
+// The 32 bytes from a place on. All are there, so no byte is tested.
+fn list_at(s: &[u8; AREA], at: u32) -> [u8; 32]
+    requires { at + 32 ≤ node_size }
     ensures { result ≡ window 32 s.now at }
 {
-    let from = at as usize;
-    let mut l = [0u8; 32];
-    for i in 0..32usize {
-        l[i] = s[from + i];
-    }
-    l
+    *s[at as usize..].first_chunk().unwrap()
 }
 
 // The node that the bytes of an area stand for, whatever they are.
-fn decode(s: &[u8]) -> Core
-    requires { length s.now ≡ node_size }
+fn decode(s: &[u8; AREA]) -> Core
     ensures { result ≡ core_of (decoded_with s.now free free) }
 {
-    let known = list_at(s, KNOWN);
-    let counters = list_at(s, COUNTERS);
     Core {
         setup: Setup {
             node: lists::word(s, NODE),
@@ -108,12 +93,12 @@ fn decode(s: &[u8]) -> Core
         flags: lists::word(s, FLAGS),
         round: Round {
             merged: lists::word(s, MERGED),
-            known,
+            known: list_at(s, KNOWN),
             lowest: lists::word(s, LOWEST),
             highest: lists::word(s, HIGHEST),
             heard: lists::word(s, HEARD),
         },
-        counters,
+        counters: list_at(s, COUNTERS),
         interactions: lists::word(s, INTERACTIONS),
         place: lists::word(s, PLACE),
         updated: lists::byte(s, UPDATED) == 1,
@@ -121,13 +106,11 @@ fn decode(s: &[u8]) -> Core
 }
 
 // Fourteen numbers at the start of an area.
-fn put_words(area: &mut [u8], w: [u32; 14])
-    requires { length area.old ≡ node_size }
+fn put_words(area: &mut [u8; AREA], w: [u32; 14])
     ensures { area.new ≡ written area.old 0 (flat w) }
 {
-    for i in 0..14usize {
-        let b = lists::word_bytes(w[i]);
-        lists::put_bytes(area, 4 * i, &b);
+    for (i, x) in w.iter().enumerate() {
+        lists::put_bytes(area, 4 * i, &lists::word_bytes(*x));
     }
 }
 
@@ -135,25 +118,20 @@ fn put_words(area: &mut [u8], w: [u32; 14])
 pub fn small_bytes(c: Core) -> [u8; 4]
     ensures { result ≡ small_of (bare c) }
 {
-    let phase = c.phase;
     [
         c.demand,
         c.request,
-        wire::phase_byte(phase),
-        c.updated as u8,
+        wire::phase_byte(c.phase),
+        u8::from(c.updated),
     ]
 }
 
 // A node's bytes before the schedules into its area.
-fn put_front(area: &mut [u8], c: Core)
-    requires { length area.old ≡ node_size }
+fn put_front(area: &mut [u8; AREA], c: Core)
     ensures { area.new ≡ written area.old 0 (front_of (bare c)) }
 {
     let s = c.setup;
     let r = c.round;
-    let small = small_bytes(c);
-    let known = r.known;
-    let counters = c.counters;
     let words = [
         s.node,
         s.config.nodes,
@@ -171,23 +149,9 @@ fn put_front(area: &mut [u8], c: Core)
         c.place,
     ];
     put_words(area, words);
-    lists::put_bytes(area, DEMAND, &small);
-    lists::put_bytes(area, KNOWN as usize, &known);
-    lists::put_bytes(area, COUNTERS as usize, &counters);
-}
-
-// No node, and a blank one in its place.
-fn nothing() -> AreaRead
-    ensures { result ≡ no_node }
-{
-    let setup = Setup {
-        node: 0,
-        config: Config::none(),
-    };
-    AreaRead {
-        ok: false,
-        core: Core::restart(setup, 0, 0),
-    }
+    lists::put_bytes(area, DEMAND, &small_bytes(c));
+    lists::put_bytes(area, KNOWN as usize, &r.known);
+    lists::put_bytes(area, COUNTERS as usize, &c.counters);
 }
 
 // Whether an area is within the ranges, by its node but for the schedules. Their masks are tested where they stand; the first test that
@@ -207,19 +171,14 @@ fn fits(s: &[u8], c: Core) -> bool
     masks::fit(s, DETERMINED, next, f.nodes)
 }
 
-// The node in an area. Only the phase byte, the `updated` byte and the masks can encode nothing, so only they are tested beside the ranges.
-pub fn read(s: &[u8]) -> AreaRead
+// The node in an area but for its schedules, where these are its bytes and it is within the ranges. Only the phase byte, the `updated` byte and the masks can encode nothing, so only they are tested beside the ranges.
+pub fn read(s: &[u8]) -> Option<Core>
     ensures { result ≡ area_read s.now }
 {
-    if s.len() != AREA {
-        return nothing();
-    }
-    let plain = (s[PHASE] <= 3) & (s[UPDATED] <= 1);
-    let core = decode(&s[..AREA]);
-    AreaRead {
-        ok: plain & fits(s, core),
-        core,
-    }
+    let area = s.as_array::<AREA>()?;
+    let plain = (area[PHASE] <= 3) & (area[UPDATED] <= 1);
+    let core = decode(area);
+    (plain & fits(s, core)).then_some(core)
 }
 
 // The version of a node and the schedule that its area holds, for n nodes, as on the air, at the start of an output that has room for them.
@@ -241,11 +200,11 @@ pub fn step(area: &mut [u8], next: Core, change: Move, before: Core) -> bool
     ensures value { result ≡ eqb (length area.old) node_size }
     ensures area_after { area.new ≡ area_stepped next change before area.old }
 {
-    if area.len() != AREA {
+    let Some(whole) = area.as_mut_array::<AREA>() else {
         return false;
-    }
-    before.move_at(area, SCHEDULE as usize, change);
-    put_front(area, next);
+    };
+    before.move_at(whole, SCHEDULE as usize, change);
+    put_front(whole, next);
     true
 }
 

@@ -8,7 +8,7 @@ use Prim.Native.Nat.{ℕ, ◌-◌}
 use Rattle.words.specs.Bits.{is_in}
 use Rattle.words.proofs.Tests.{is_false}
 use Rattle.node.specs.Model.{Node}
-use Rattle.node.specs.declared.Answer.TheVariants.{Done}
+use Rattle.node.specs.Answers.{Done}
 use Rattle.node.proofs.Majority.{complete-informed}
 use Rattle.site.specs.Members.{member_at}
 use Rattle.site.specs.Load.{load_answer}

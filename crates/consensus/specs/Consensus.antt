@@ -7,7 +7,7 @@ use Rattle.words.specs.Bits.{is_in, is_inside}
 use Rattle.membership.specs.requests.Requests.{requesters, entry_of}
 use Rattle.node.specs.Close.{complete}
 use Rattle.node.specs.Model.{Node}
-use Rattle.node.specs.declared.Answer.TheVariants.{Done}
+use Rattle.node.specs.Answers.{Done}
 use Rattle.site.specs.Members.{member_at, is_live}
 use Rattle.site.specs.Load.{load_answer}
 use Rattle.node.specs.declared.Config.{Config}

@@ -3,4 +3,3 @@ pub mod Laws
 pub mod Bound
 pub mod Parts
 pub mod Listed
-pub mod Seen

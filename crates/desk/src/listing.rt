@@ -14,13 +14,7 @@ use site::State;
 fn has_room(size: usize, at: usize, n: usize) -> bool
     ensures { result ≡ leb (at + n) size }
 {
-    if size < at {
-        return false;
-    }
-    if size - at < n {
-        return false;
-    }
-    true
+    at <= size && n <= size - at
 }
 
 // The head over the refused lines, by whether the site may split.
@@ -58,10 +52,10 @@ fn report(out: &mut [u8], at: usize, line: u32, code: u32) -> usize
 pub fn put_report(out: &mut [u8], at: usize, line: u32, a: Answer) -> usize
     ensures { Tried out.old at (refusal_line line a) result out.new }
 {
-    if node::is_done(a) {
+    let Err(refusal) = a else {
         return at;
-    }
-    let code = node::code(a);
+    };
+    let code = u32::from(refusal);
     if !has_room(out.len(), at, text::width(line) + text::width(code) + 2) {
         return at;
     }
@@ -84,15 +78,13 @@ fn put_owners(out: &mut [u8], at: usize, owners: &[u8]) -> usize
     requires { at + length (owners_text owners.now) ≤ length out.old }
     ensures { Put out.old at (owners_text owners.now) result out.new }
 {
-    if owners.len() == 0 {
+    let Some((first, more)) = owners.split_first() else {
         return at;
-    }
-    let mut pos = text::put_number(out, at, owners[0] as u32);
-    let mut i: usize = 1;
-    while i < owners.len() {
-        let p = text::put_byte(out, pos, 44);
-        pos = text::put_number(out, p, owners[i] as u32);
-        i += 1;
+    };
+    let mut pos = text::put_number(out, at, u32::from(*first));
+    for owner in more {
+        pos = text::put_byte(out, pos, 44);
+        pos = text::put_number(out, pos, u32::from(*owner));
     }
     pos
 }
@@ -108,7 +100,7 @@ fn shown_of(words: &[u32], bytes: &[u8], j: u32) -> Shown
             state,
             version: c.version,
             flags: c.flags,
-            request: c.request as u32,
+            request: u32::from(c.request),
         };
     }
     Shown {
@@ -135,9 +127,8 @@ fn row(out: &mut [u8], number: u32, s: Shown, owners: &[u8]) -> usize
     requires { (length owners.now ≤ 80) × (1000 ≤ length out.old) }
     ensures { Put out.old 0 (shown_row number s owners.now) result out.new }
 {
-    let state = s.state;
     let a = put_field(out, 0, number);
-    let b = put_state(out, a, state);
+    let b = put_state(out, a, s.state);
     let c = put_field(out, b, s.version);
     let d = put_field(out, c, s.flags);
     let e = put_field(out, d, s.request);
@@ -165,10 +156,8 @@ pub fn put_rows(out: &mut [u8], to: usize, n: u32, words: &[u32], bytes: &[u8], 
         ≡ with_rows n 0 (store words.now bytes.now) k (page out.old to) }
 {
     let mut at = to;
-    let mut i: u32 = 0;
-    while i < n {
+    for i in 0..n {
         at = put_row(out, at, words, bytes, i + 1, k);
-        i += 1;
     }
     at
 }

@@ -4,7 +4,6 @@ ghost use Rattle.lists.specs.Bytes.{Put, Tried};
 ghost use Rattle.desk.specs.reasons.Reasons.{reason_line, reason};
 ghost use Rattle.desk.specs.reasons.Inner.{rule_field};
 
-use machine::NodeReport;
 use node::{Ground, Rule};
 
 // A rule and the space behind it.
@@ -27,24 +26,22 @@ fn row(out: &mut [u8], line: u32, number: u32, g: Ground) -> usize
     requires { 44 ≤ length out.old }
     ensures { Put out.old 0 (reason_line line number g) result out.new }
 {
-    let rule = g.rule;
     let a = text::put_number(out, 0, line);
     let b = text::put_byte(out, a, 32);
     let c = text::put_number(out, b, number);
     let d = text::put_byte(out, c, 32);
-    let e = put_rule(out, d, rule);
-    let f = text::put_number(out, e, g.missing as u32);
+    let e = put_rule(out, d, g.rule);
+    let f = text::put_number(out, e, u32::from(g.missing));
     text::put_byte(out, f, 10)
 }
 
 // The line of a node that reports; nothing of any other.
-pub fn put_reason(out: &mut [u8], at: usize, line: u32, number: u32, t: NodeReport) -> usize
+pub fn put_reason(out: &mut [u8], at: usize, line: u32, number: u32, t: Option<Ground>) -> usize
     ensures { Tried out.old at (reason line number t) result out.new }
 {
-    if !t.live {
+    let Some(g) = t else {
         return at;
-    }
-    let g = t.grounds;
+    };
     let mut b = [0u8; 44];
     let n = row(&mut b, line, number, g);
     lists::put_bytes(out, at, &b[..n])

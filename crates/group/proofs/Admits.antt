@@ -12,7 +12,7 @@ use lib.ListN.{length, get_or}
 use Rattle.words.proofs.Tests.{clash, met?, hit, skip, and_left, and_right, and-rest}
 use Rattle.allotment.specs.Allotment.{total}
 use Rattle.node.specs.Answers.{is_done}
-use Rattle.node.specs.declared.Answer.TheVariants.{Done, NoSuchNode}
+use Rattle.node.specs.Answers.{Done, NoSuchNode}
 use Rattle.node.proofs.Answers.{done-is, test-met}
 use Rattle.node.specs.Negotiation.{packet_of}
 use Rattle.wire.specs.Layout.{packet_size}

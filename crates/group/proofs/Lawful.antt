@@ -7,7 +7,7 @@ use mathlib.Core.List.{List}
 use Prim.Native.Nat.{ℕ, ◌-◌, ◌<◌}
 use lib.ListN.{length}
 use Rattle.node.specs.Negotiation.{packet_of}
-use Rattle.node.specs.declared.Answer.TheVariants.{Done}
+use Rattle.node.specs.Answers.{Done}
 use Rattle.node.specs.declared.Packet.{Packet}
 use Rattle.range.proofs.Laws.{packet-long}
 use Rattle.site.specs.Counts.{packets}

@@ -5,14 +5,14 @@ use mathlib.Core.Bool.{Bool, true, false, not, cond, ◌&&◌}
 use mathlib.Core.List.{List, [], ◌∷◌, map}
 use Prim.Native.Nat.{ℕ, ◌-◌, ◌≤◌}
 use native.Mathlib.Omega.{arith}
-use borrow.Author.Tests.{le-ltb, eq-eqb, eqb-true}
+use borrow.Author.Tests.{le-ltb, eqb-true}
 use lib.Dec.{eqb, leb}
 use lib.ListN.{length, get_or, set}
 use Rattle.words.proofs.Tests.{hit, skip, and_left, and_right}
 use Rattle.allotment.specs.Allotment.{total}
 use Rattle.node.specs.Answers.{is_done, number}
-use Rattle.node.specs.declared.Answer.{Answer}
-use Rattle.node.specs.declared.Answer.TheVariants.{NoSuchNode}
+use Rattle.node.specs.Answers.{Answer}
+use Rattle.node.specs.Answers.{NoSuchNode}
 use Rattle.site.specs.Answers.{area_size, site_send, site_close, event_answer, answer_of}
 use Rattle.site.specs.Steps.{sent_site, closed_site, next_site, site_after}
 use Rattle.site.specs.Events.{is_end}
@@ -20,6 +20,7 @@ use Rattle.site.specs.Model.{Site}
 use Rattle.site.specs.declared.Event.{Event}
 use Rattle.site.specs.declared.Event.TheVariants.{Send, Close}
 use Rattle.machine.specs.timed.Timed.{Timed, timed_after}
+use Rattle.machine.proofs.Refused.{zero-done}
 use Rattle.machine.proofs.timed.Laws.{plain-answer, plain-after}
 use Rattle.group.specs.Group.{SiteSlot, Empty, Taken, Group, is_number, site_slot_of, packets_in, own_share, common_share, beyond, common}
 use Rattle.group.specs.Group.{own_area}
@@ -121,15 +122,14 @@ module _ (g : Group) (room : area_size ≤ length g.area) (a : ℕ) (x : Act) wh
       accepts : group_accepts g (call_of a x) ≡ true
       accepts =
           let p = passed in
-          let d : is_done (plain_answer g (call_of a x)) ≡ true = ap is_done plain_by ∙ eq-eqb (number (answer_by t.site x)) 0 p.1 in
+          let d : is_done (plain_answer g (call_of a x)) ≡ true = ap is_done (plain_by ∙ zero-done (answer_by t.site x) p.1) in
           let c : is_crowded g (call_of a x) ≡ false = crowded-by ∙ p.0 in
           λ i. d i && not (c i)
 
       site-by : timed_after t own [] (event_of x) ≡ record { site = site_by t.site x; day = t.day }
       unfolding site_after
       site-by =
-          let d : is_done (answer_of t.site own (event_of x)) ≡ true = ap is_done site-answer
-          ∙ eq-eqb (number (answer_by t.site x)) 0 passed.1 in
+          let d : is_done (answer_of t.site own (event_of x)) ≡ true = ap is_done (site-answer ∙ zero-done (answer_by t.site x) passed.1) in
           let s : site_after t.site own (event_of x) ≡ site_by t.site x = hit _ _ t.site d ∙ go x in
           plain-after t own [] (event_of x) (no_end x) ∙ (λ i. record { site = s i; day = t.day })
         where

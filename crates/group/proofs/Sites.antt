@@ -9,7 +9,7 @@ use native.Mathlib.Omega.{arith}
 use Rattle.words.proofs.Tests.{clash, hit, skip, read_same}
 use Rattle.node.specs.Answers.{is_done}
 use Rattle.node.specs.Negotiation.{packet_of}
-use Rattle.node.specs.declared.Answer.TheVariants.{Done}
+use Rattle.node.specs.Answers.{Done}
 use Rattle.node.proofs.Answers.{done-is}
 use Rattle.wire.specs.Reads.{placed, has_part}
 use Rattle.site.specs.Counts.{packets}

@@ -9,7 +9,7 @@ use native.Mathlib.Omega.{arith}
 use lib.ListN.{length}
 use Rattle.words.proofs.Tests.{clash, met?, hit, skip, and_left, same_or_not}
 use Rattle.node.specs.Answers.{is_done, number}
-use Rattle.node.specs.declared.Answer.TheVariants.{Done}
+use Rattle.node.specs.Answers.{Done}
 use Rattle.site.specs.Counts.{packets}
 use Rattle.site.specs.Answers.{area_size}
 use Rattle.site.specs.Load.{loaded_site}

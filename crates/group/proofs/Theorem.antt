@@ -7,12 +7,13 @@ use mathlib.Core.List.{List, [], ◌∷◌, ◌++◌}
 use Prim.Native.Nat.{ℕ, zero, suc, ◌+◌, ◌-◌, ◌≤◌}
 use native.Mathlib.Omega.{arith}
 use borrow.Author.Tests.{eq-eqb, ne_eqb}
+use Rattle.machine.proofs.Refused.{zero-done}
 use lib.Dec.{eqb}
 use lib.ListN.{length, get_or, replicate, length-replicate}
 use Rattle.words.proofs.Tests.{hit, skip, read_same, same_or_not}
 use Rattle.allotment.specs.Allotment.{total}
 use Rattle.node.specs.Answers.{is_done, number}
-use Rattle.node.specs.declared.Answer.{Answer}
+use Rattle.node.specs.Answers.{Answer}
 use Rattle.site.specs.Answers.{area_size}
 use Rattle.node.specs.declared.Config.{Config}
 use Rattle.site.specs.declared.Table.{Table}
@@ -170,7 +171,7 @@ module _ (own : List ℕ) (long : area_size ≤ length own) where
 load-done : (g : Group) (a : ℕ) (f : Config) (t : Table) (D : ℕ) (ws : List Window) → answer_to g (LoadSite a f t D ws) ≡ 0
     → is_done (plain_answer g (LoadSite a f t D ws)) ≡ true
 unfolding answer_to is_crowded
-load-done g a f t D ws h = eq-eqb _ _ h
+load-done g a f t D ws h = ap is_done (zero-done (plain_answer g (LoadSite a f t D ws)) h)
 
 -- the same load is accepted in any group
 load_again : (g k : Group) (a : ℕ) (f : Config) (t : Table) (D : ℕ) (ws : List Window) → is_done (plain_answer g (LoadSite a f t D ws)) ≡ true

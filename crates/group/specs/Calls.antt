@@ -4,8 +4,8 @@
 -- Assumes nothing.
 use Rattle.std.specs.Prelude.{Bool, true, false, not, cond, ◌&&◌, List, ℕ, ltb, leb, length}
 use Rattle.node.specs.Answers.{is_done, number}
-use Rattle.node.specs.declared.Answer.{Answer}
-use Rattle.node.specs.declared.Answer.TheVariants.{NoSuchNode, NoRoom, Crowded}
+use Rattle.node.specs.Answers.{Answer}
+use Rattle.node.specs.Answers.{NoSuchNode, NoRoom, Crowded}
 use Rattle.site.specs.Answers.{area_size}
 use Rattle.node.specs.declared.Config.{Config}
 use Rattle.site.specs.declared.Table.{Table}

@@ -11,7 +11,7 @@ use Rattle.node.specs.Figures.{is_waiting}
 use Rattle.node.specs.Negotiation.{packet_of}
 use Rattle.node.specs.Begin.{waiting}
 use Rattle.node.specs.declared.Packet.{Packet}
-use Rattle.node.specs.declared.Answer.TheVariants.{Done}
+use Rattle.node.specs.Answers.{Done}
 use Rattle.node.proofs.Answers.{done-is}
 use Rattle.node.proofs.Made.{restarted}
 use Rattle.site.specs.Members.{setup_of, member_at, down_member}

@@ -5,7 +5,7 @@ use mathlib.Core.Bool.{true}
 use Prim.Native.Nat.{ℕ, ◌-◌}
 use Rattle.words.proofs.Tests.{hit}
 use Rattle.node.specs.Answers.{is_done}
-use Rattle.node.specs.declared.Answer.TheVariants.{Done}
+use Rattle.node.specs.Answers.{Done}
 use Rattle.wire.specs.Reads.{has_part}
 use Rattle.site.specs.Counts.{packets}
 use Rattle.site.specs.Answers.{answer_of}

@@ -19,8 +19,8 @@ use Rattle.node.specs.Negotiation.{hear_answer}
 use Rattle.node.specs.declared.Setup.{Setup}
 use Rattle.node.specs.Model.{Node}
 use Rattle.node.specs.declared.Packet.{Packet}
-use Rattle.node.specs.declared.Answer.{Answer}
-use Rattle.node.specs.declared.Answer.TheVariants.{Done, NoSuchNode, WrongPhase, NotLive, NoSuchPacket, OwnPacket, NoRoom}
+use Rattle.node.specs.Answers.{Answer}
+use Rattle.node.specs.Answers.{Done, NoSuchNode, WrongPhase, NotLive, NoSuchPacket, OwnPacket, NoRoom}
 use Rattle.node.proofs.Tested.{hear-agreed}
 use Rattle.wire.specs.Layout.{packet_in}
 use Rattle.wire.specs.Reads.{packet_answer, part_of}

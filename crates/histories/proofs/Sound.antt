@@ -24,7 +24,7 @@ use Rattle.node.specs.Begin.{waiting, restart_answer}
 use Rattle.node.specs.declared.Setup.{Setup}
 use Rattle.node.specs.Model.{Node}
 use Rattle.node.specs.declared.Packet.{Packet}
-use Rattle.node.specs.declared.Answer.TheVariants.{Done}
+use Rattle.node.specs.Answers.{Done}
 use Rattle.range.proofs.Keeps as keep
 use Rattle.node.proofs.Laws as law
 use Rattle.node.proofs.Tested.{restart-done}

@@ -3,7 +3,7 @@
 -- Assumes nothing.
 use Rattle.std.specs.Prelude.{◌≡◌, true, List, ℕ, ◌≤◌}
 use Rattle.node.specs.Negotiation.{packet_of}
-use Rattle.node.specs.declared.Answer.TheVariants.{Done}
+use Rattle.node.specs.Answers.{Done}
 use Rattle.wire.specs.Reads.{placed, has_part}
 use Rattle.site.specs.Counts.{top_sent, top_packets, sent_of, packets}
 use Rattle.site.specs.Members.{header_of, member_at}

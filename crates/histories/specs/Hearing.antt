@@ -2,8 +2,8 @@
 -- sent, and within a round no node is known with two requests; so a live node that hears a packet of the phase answers 0, or 9 to its own.
 -- Assumes nothing.
 use Rattle.std.specs.Prelude.{◌≡◌, not, cond, List, ℕ, eqb, ltb, length}
-use Rattle.node.specs.declared.Answer.{Answer}
-use Rattle.node.specs.declared.Answer.TheVariants.{Done, NoSuchNode, WrongPhase, NotLive, NoSuchPacket, OwnPacket, NoRoom}
+use Rattle.node.specs.Answers.{Answer}
+use Rattle.node.specs.Answers.{Done, NoSuchNode, WrongPhase, NotLive, NoSuchPacket, OwnPacket, NoRoom}
 use Rattle.wire.specs.Layout.{packet_in}
 use Rattle.site.specs.Members.{header_of, member_at, outside, is_live}
 use Rattle.site.specs.Parts.{packet_part}

@@ -3,7 +3,7 @@
 use Rattle.std.specs.Prelude.{◌≡◌, true, List, ℕ}
 use Rattle.node.specs.Figures.{is_last}
 use Rattle.node.specs.Model.{Node}
-use Rattle.node.specs.declared.Answer.TheVariants.{Done}
+use Rattle.node.specs.Answers.{Done}
 use Rattle.site.specs.Members.{member_at, is_live}
 use Rattle.site.specs.Load.{loaded_site}
 use Rattle.site.specs.Answers.{answer_of}

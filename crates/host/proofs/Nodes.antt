@@ -26,10 +26,10 @@ use Rattle.node.specs.Steps.{wanted_node}
 use Rattle.range.specs.Range.{in_range}
 use Rattle.node.specs.declared.Setup.{Setup}
 use Rattle.node.specs.Model.{Node}
-use Rattle.node.specs.declared.Answer.{Answer}
+use Rattle.node.specs.Answers.{Answer}
 use Rattle.node.specs.declared.Packet.{Packet}
 use Rattle.node.specs.Model.{Versioned}
-use Rattle.node.specs.declared.Answer.TheVariants.{Done, OutOfRange, WrongPhase, NotANode, NoRoom}
+use Rattle.node.specs.Answers.{Done, OutOfRange, WrongPhase, NotANode, NoRoom}
 use Rattle.node.proofs.Answers.{done-is, test-met, both-done}
 use Rattle.range.proofs.Lengths.{Lengths, words, long-close}
 use Rattle.range.proofs.Ranges.{ranges}

@@ -18,8 +18,8 @@ use Rattle.node.specs.Begin.{starting, waiting, start_answer, restart_answer}
 use Rattle.node.specs.End.{end_answer}
 use Rattle.node.specs.Grounds.{ground_of}
 use Rattle.node.specs.Model.{Node}
-use Rattle.node.specs.declared.Answer.{Answer}
-use Rattle.node.specs.declared.Answer.TheVariants.{Done, OutOfRange, NotANode}
+use Rattle.node.specs.Answers.{Answer}
+use Rattle.node.specs.Answers.{Done, OutOfRange, NotANode}
 use Rattle.node.proofs.Answers.{done-is}
 use Rattle.range.specs.Range.{in_range}
 use Rattle.range.proofs.Keeps.{keeps-start, keeps-restart}

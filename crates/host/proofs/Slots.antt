@@ -22,8 +22,8 @@ use Rattle.allotment.specs.Allotment.{owners_of, owner_of}
 use Rattle.allotment.specs.Model.{Schedule}
 use Rattle.allotment.proofs.Schedules.{owner_at, same-owners}
 use Rattle.node.specs.Answers.{is_done}
-use Rattle.node.specs.declared.Answer.{Answer}
-use Rattle.node.specs.declared.Answer.TheVariants.{Done, NotANode}
+use Rattle.node.specs.Answers.{Answer}
+use Rattle.node.specs.Answers.{Done, NotANode}
 use Rattle.node.specs.Figures.{negotiates}
 use Rattle.node.specs.Negotiation.{in_negotiation, send_answer}
 use Rattle.node.specs.Model.{Node}

@@ -22,8 +22,8 @@ use Rattle.node.specs.Distribution.{take_answer, taken_node}
 use Rattle.node.specs.End.{end_answer, ended_node}
 use Rattle.node.specs.Steps.{wanted_node}
 use Rattle.range.specs.Range.{in_range, schedule_ok}
-use Rattle.node.specs.declared.Answer.{Answer}
-use Rattle.node.specs.declared.Answer.TheVariants.{Done, OutOfRange}
+use Rattle.node.specs.Answers.{Answer}
+use Rattle.node.specs.Answers.{Done, OutOfRange}
 use Rattle.node.specs.Model.{Node}
 use Rattle.node.specs.declared.Setup.{Setup}
 use Rattle.range.proofs.Keeps.{PacketRanges, keeps-start, keeps-restart, keeps-hear, keeps-close, keeps-take, keeps-end, keeps-want}

@@ -18,13 +18,12 @@ use Rattle.masks.specs.Slots.{owners_in, masks_of}
 use Rattle.masks.specs.Bytes.{masks_in}
 use Rattle.masks.specs.Air.{owners_to}
 use Rattle.masks.proofs.Told.{told-within, masks-cut}
-use Rattle.node.specs.Answers.{number}
 use Rattle.node.specs.Core.{core_of, bare, moved_by}
 use Rattle.node.specs.Model.{Node}
 use Rattle.node.specs.declared.Core.{Core}
 use Rattle.node.specs.declared.CoreStep.{CoreStep}
-use Rattle.node.specs.declared.Answer.{Answer}
-use Rattle.node.specs.declared.Answer.TheVariants.{Done, OutOfRange, NotANode}
+use Rattle.node.specs.Answers.{Answer}
+use Rattle.node.specs.Answers.{Done, OutOfRange, NotANode}
 use Rattle.node.specs.declared.Move.TheVariants.{Free}
 use Rattle.node.specs.Steps.{want_answer}
 use Rattle.node.proofs.Bare.{send-phase, take-phase, hear-bare}
@@ -44,29 +43,20 @@ use Rattle.area.proofs.Steps.{begun, stepped}
 use Rattle.host.proofs.Stays.{schedule-sound}
 use Rattle.host.specs.Calls.{and_then, is_node_area, room_answer, is_sized, unless_refused, sent_answer, heard_answer, taken_answer, wanting_of}
 
--- a beginning in an area, by whether this has its length
-began : (a : List ℕ) (c : Core) {m : List ℕ} (t : Bool) → Lengths (bare c) → eqb (length a) node_size ≡ t → m ≡ area_stepped c Free c a
-    → (cond t 0 14 ≡ number (is_sized a)) × (m ≡ unless_refused (is_sized a) (bare c) a)
-began a c true l e f = (
-  sym (ap (λ (b : Bool). number (cond b Done NotANode)) e),
-  f ∙ begun a c (bare c) (eqb-true _ _ e) refl l ∙ sym (ap (λ (b : Bool). unless_refused (cond b Done NotANode) (bare c) a) e),
-)
-began a c false l e f = (
-  sym (ap (λ (b : Bool). number (cond b Done NotANode)) e),
-  f ∙ skip _ _ _ _ e refl ∙ sym (ap (λ (b : Bool). unless_refused (cond b Done NotANode) (bare c) a) e),
-)
-
-pub sized : (a : List ℕ) (c : Core) {r : Bool} {m : List ℕ} (t : Bool) → Lengths (bare c) → r ≡ eqb (length a) node_size → r ≡ t
-    → m ≡ area_stepped c Free c a → (cond t 0 14 ≡ number (is_sized a)) × (m ≡ unless_refused (is_sized a) (bare c) a)
-sized a c t l e k f = began a c t l (sym e ∙ k) f
+-- a beginning in an area that has its length
+pub sized : (a : List ℕ) (c : Core) {r : Bool} {m : List ℕ} → Lengths (bare c) → r ≡ eqb (length a) node_size → r ≡ true
+    → m ≡ area_stepped c Free c a → m ≡ unless_refused (is_sized a) (bare c) a
+sized a c l h k f =
+    let e = sym h ∙ k in
+    f ∙ begun a c (bare c) (eqb-true _ _ e) refl l ∙ sym (ap (λ (b : Bool). unless_refused (cond b Done NotANode) (bare c) a) e)
 
 -- a beginning that is not refused
-pub begins : (a : List ℕ) (x : Answer) (n : Node) {c : Core} {r : ℕ} {m : List ℕ} → x ≡ Done → bare c ≡ n → r ≡ number (is_sized a)
+pub begins : (a : List ℕ) (x : Answer) (n : Node) {c : Core} {r : Answer} {m : List ℕ} → x ≡ Done → bare c ≡ n → r ≡ is_sized a
     → m ≡ unless_refused (is_sized a) (bare c) a
-    → (r ≡ number (and_then x (is_sized a))) × (m ≡ unless_refused (and_then x (is_sized a)) n a)
+    → (r ≡ and_then x (is_sized a)) × (m ≡ unless_refused (and_then x (is_sized a)) n a)
 begins a x n d k p q =
     let e : and_then x (is_sized a) ≡ is_sized a = ap (λ (y : Answer). and_then y (is_sized a)) d in
-    (p ∙ sym (ap number e), q ∙ ap (λ (y : Node). unless_refused (is_sized a) y a) k ∙ sym (ap (λ (y : Answer). unless_refused y n a) e))
+    (p ∙ sym e, q ∙ ap (λ (y : Node). unless_refused (is_sized a) y a) k ∙ sym (ap (λ (y : Answer). unless_refused y n a) e))
 
 -- the node of an area makes a step
 module _ (a : List ℕ) (v : valid a ≡ true) where

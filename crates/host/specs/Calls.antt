@@ -18,8 +18,8 @@ use Rattle.node.specs.Grounds.{rule_number, ground_of}
 use Rattle.node.specs.declared.Setup.{Setup}
 use Rattle.node.specs.Model.{Node}
 use Rattle.node.specs.declared.Ground.{Ground}
-use Rattle.node.specs.declared.Answer.{Answer}
-use Rattle.node.specs.declared.Answer.TheVariants.{Done, OutOfRange, NotANode, NoRoom}
+use Rattle.node.specs.Answers.{Answer}
+use Rattle.node.specs.Answers.{Done, OutOfRange, NotANode, NoRoom}
 use Rattle.wire.specs.Layout.{packet_size, schedule_size, packet_bytes, packet_in, schedule_bytes, schedule_in}
 use Rattle.wire.specs.Reads.{packet_answer, schedule_answer}
 use Rattle.area.specs.Area.{node_size, encoded, decoded, valid}

@@ -14,8 +14,8 @@ use Rattle.node.specs.Steps.{wanted_node}
 use Rattle.node.specs.Grounds.{ground_of}
 use Rattle.node.specs.declared.Setup.{Setup}
 use Rattle.node.specs.Model.{Node}
-use Rattle.node.specs.declared.Answer.{Answer}
-use Rattle.node.specs.declared.Answer.TheVariants.{Done, OutOfRange}
+use Rattle.node.specs.Answers.{Answer}
+use Rattle.node.specs.Answers.{Done, OutOfRange}
 use Rattle.wire.specs.Layout.{packet_bytes, packet_in, schedule_in}
 use Rattle.area.specs.Area.{node_size, encoded, decoded, valid}
 use Rattle.host.specs.Report.{report_size, report}

@@ -7,7 +7,7 @@ use Rattle.words.specs.Bits.{how_many}
 use Rattle.lists.specs.Bytes.{span}
 use Rattle.masks.specs.Slots.{low_of, high_of, count_of, has_slot, holds}
 use Rattle.masks.specs.Bytes.{masks_in}
-use Rattle.node.specs.declared.Answer.TheVariants.{Done}
+use Rattle.node.specs.Answers.{Done}
 use Rattle.area.specs.Area.{at_schedule, decoded}
 use Rattle.host.specs.Calls.{reading_of, out_read, slots_answer, out_slots}
 

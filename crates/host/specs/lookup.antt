@@ -1,3 +1,2 @@
 -- The demand that a box asks for as an epoch begins.
 pub mod Lookup
-pub mod Inner

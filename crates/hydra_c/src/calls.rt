@@ -23,9 +23,9 @@ pub extern "C" fn hydra_begin(
     ensures area_after { area.new ≡ after_begin area.old
         (setup_from node nodes slots rounds heard split) version flags demand }
 {
-    host::calls::hydra_begin(
+    node::code(host::calls::hydra_begin(
         area, node, nodes, slots, rounds, heard, split, version, flags, demand,
-    )
+    ))
 }
 
 // A restarted node, which waits for the epoch's end.
@@ -44,7 +44,9 @@ pub extern "C" fn hydra_restart(
     ensures value { result ≡ number (restarting area.old (setup_from node nodes slots rounds heard split) flags place) }
     ensures area_after { area.new ≡ after_restart area.old (setup_from node nodes slots rounds heard split) flags place }
 {
-    host::calls::hydra_restart(area, node, nodes, slots, rounds, heard, split, flags, place)
+    node::code(host::calls::hydra_restart(
+        area, node, nodes, slots, rounds, heard, split, flags, place,
+    ))
 }
 
 // The packet of this moment to the start of an output.
@@ -53,7 +55,7 @@ pub extern "C" fn hydra_send(area: &[u8], out: &mut [u8]) -> u32
     ensures value { result ≡ number (sending_of area.now out.old) }
     ensures out_after { out.new ≡ out_send area.now out.old }
 {
-    host::calls::hydra_send(area, out)
+    node::code(host::calls::hydra_send(area, out))
 }
 
 // A packet off the air.
@@ -62,7 +64,7 @@ pub extern "C" fn hydra_hear(area: &mut [u8], packet: &[u8]) -> u32
     ensures value { result ≡ number (hearing_of area.old packet.now) }
     ensures area_after { area.new ≡ after_hear area.old packet.now }
 {
-    host::calls::hydra_hear(area, packet)
+    node::code(host::calls::hydra_hear(area, packet))
 }
 
 // The close of negotiation; a node that sends then writes version and schedule to the start of an output. Its ground goes to the start of
@@ -74,7 +76,7 @@ pub extern "C" fn hydra_close(area: &mut [u8], out: &mut [u8], ground: &mut [u8]
     ensures out_after { out.new ≡ out_close area.old out.old ground.old }
     ensures ground_after { ground.new ≡ ground_close area.old out.old ground.old }
 {
-    host::calls::hydra_close(area, out, ground)
+    node::code(host::calls::hydra_close(area, out, ground))
 }
 
 // A sender's version and schedule off the air.
@@ -83,7 +85,7 @@ pub extern "C" fn hydra_take(area: &mut [u8], schedule: &[u8]) -> u32
     ensures value { result ≡ number (taking_of area.old schedule.now) }
     ensures area_after { area.new ≡ after_take area.old schedule.now }
 {
-    host::calls::hydra_take(area, schedule)
+    node::code(host::calls::hydra_take(area, schedule))
 }
 
 // The end of the round.
@@ -92,7 +94,7 @@ pub extern "C" fn hydra_end(area: &mut [u8]) -> u32
     ensures value { result ≡ number (ending_of area.old) }
     ensures area_after { area.new ≡ after_end area.old }
 {
-    host::calls::hydra_end(area)
+    node::code(host::calls::hydra_end(area))
 }
 
 // Another demand.
@@ -101,7 +103,7 @@ pub extern "C" fn hydra_want(area: &mut [u8], demand: u32) -> u32
     ensures value { result ≡ number (wanting_of area.old demand) }
     ensures area_after { area.new ≡ after_want area.old demand }
 {
-    host::calls::hydra_want(area, demand)
+    node::code(host::calls::hydra_want(area, demand))
 }
 
 // What a box acts on, to the start of an output.
@@ -110,7 +112,7 @@ pub extern "C" fn hydra_read(area: &[u8], out: &mut [u8]) -> u32
     ensures value { result ≡ number (reading_of area.now out.old) }
     ensures out_after { out.new ≡ out_read area.now out.old }
 {
-    host::calls::hydra_read(area, out)
+    node::code(host::calls::hydra_read(area, out))
 }
 
 // The slots of the node's own, as its two words and their number, to the start of an output: in negotiation alone, where no other node owns
@@ -120,5 +122,5 @@ pub extern "C" fn hydra_slots(area: &[u8], out: &mut [u64]) -> u32
     ensures value { result ≡ number (slots_answer area.now out.old) }
     ensures out_after { out.new ≡ out_slots area.now out.old }
 {
-    host::calls::hydra_slots(area, out)
+    node::code(host::calls::hydra_slots(area, out))
 }

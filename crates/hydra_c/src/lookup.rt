@@ -19,5 +19,5 @@ pub extern "C" fn hydra_demand(
     ensures { (result ≡ number (demand_answer nodes node day windows.now epoch))
         × (demand.new ≡ demand_after nodes node day windows.now epoch demand.old) }
 {
-    host::lookup::hydra_demand(nodes, node, day, windows, epoch, demand)
+    node::code(host::lookup::hydra_demand(nodes, node, day, windows, epoch, demand))
 }

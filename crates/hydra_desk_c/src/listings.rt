@@ -23,7 +23,7 @@ pub extern "C" fn hydra_replay(
         × (length.new ≡ length_after Refusals day windows.now script.now area.old out.old
         length.old) }
 {
-    desk::listings::hydra_replay(script, area, out, length, day, windows)
+    node::code(desk::listings::hydra_replay(script, area, out, length, day, windows))
 }
 
 // The same for part j of the reasons: part 0 is their head, part j has those of node j.
@@ -44,5 +44,5 @@ pub extern "C" fn hydra_why(
         × (length.new ≡ length_after (Reasons j) day windows.now script.now area.old
         out.old length.old) }
 {
-    desk::listings::hydra_why(script, j, area, out, length, day, windows)
+    node::code(desk::listings::hydra_why(script, j, area, out, length, day, windows))
 }

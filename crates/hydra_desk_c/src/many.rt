@@ -22,7 +22,7 @@ pub extern "C" fn hydra_group_begin(words: &[u32], bytes: &[u8], table: &mut [u3
     ensures by_index { (area : List ℕ) → group_in (memory words.now bytes.now table.new)
         area ≡ vacant area }
 {
-    sites::many::hydra_group_begin(words, bytes, table)
+    node::code(sites::many::hydra_group_begin(words, bytes, table))
 }
 
 // A load of a number: three words of `rows` for each node, and a day of so many epochs with its windows. The number's tally is set anew.
@@ -56,9 +56,9 @@ pub extern "C" fn hydra_group_load(
         × (tally.new ≡ tally_loaded (memory words.old bytes.old table.old) a
         (config_from nodes slots rounds heard split) rows.now day windows.now tally.old) }
 {
-    sites::many::hydra_group_load(
+    node::code(sites::many::hydra_group_load(
         words, bytes, table, a, nodes, slots, rounds, heard, split, rows, day, windows, tally,
-    )
+    ))
 }
 
 // An event of a number: its own number, its node, and what stands behind the node in a script. The number's tally is lent. The report of an
@@ -96,9 +96,13 @@ pub extern "C" fn hydra_group_event(
         × (tally.new ≡ tally_after_line (memory words.old bytes.old table.old) area.old a
         (lent windows.now tally.old reports.old) (event_at event node with)) }
 {
-    sites::many::hydra_group_event(
-        words, bytes, table, area, a, event, node, with, windows, tally, reports,
-    )
+    // The header says that each event reads the tally and writes it back, a refused one too.
+    let mut t = *tally;
+    let answer = sites::many::hydra_group_event(
+        words, bytes, table, area, a, event, node, with, windows, &mut t, reports,
+    );
+    *tally = t;
+    node::code(answer)
 }
 
 // What a listing shows of node j of a number, in 90 bytes at the start of an output.
@@ -116,5 +120,5 @@ pub extern "C" fn hydra_group_node(
     ensures out_after { out.new
         ≡ node_out (memory words.now bytes.now table.now) a j out.old }
 {
-    sites::many::hydra_group_node(words, bytes, table, a, j, out)
+    node::code(sites::many::hydra_group_node(words, bytes, table, a, j, out))
 }

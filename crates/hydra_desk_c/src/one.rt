@@ -38,9 +38,9 @@ pub extern "C" fn hydra_site_load(
         × (tally.new ≡ tally_after_load (store words.old bytes.old) (config_from nodes slots rounds heard split)
         rows.now day windows.now tally.old) }
 {
-    sites::one::hydra_site_load(
+    node::code(sites::one::hydra_site_load(
         words, bytes, nodes, slots, rounds, heard, split, rows, day, windows, tally,
-    )
+    ))
 }
 
 // One event: its number, its node, and what stands behind the node in a script. The report of an accepted close goes to the start of
@@ -70,9 +70,13 @@ pub extern "C" fn hydra_site_event(
         ≡ kept_after_event (store words.old bytes.old) area.old windows.now tally.old
         reports.old (event_at event node with)) }
 {
-    sites::one::hydra_site_event(
-        words, bytes, area, event, node, with, windows, tally, reports,
-    )
+    // The header says that each event reads the tally and writes it back, a refused one too.
+    let mut t = *tally;
+    let answer = sites::one::hydra_site_event(
+        words, bytes, area, event, node, with, windows, &mut t, reports,
+    );
+    *tally = t;
+    node::code(answer)
 }
 
 // What a listing shows of node j of a site in memory, in 90 bytes at the start of an output.
@@ -81,5 +85,5 @@ pub extern "C" fn hydra_site_node(words: &[u32], bytes: &[u8], j: u32, out: &mut
     ensures value { result ≡ number (showing_of (store words.now bytes.now) j out.old) }
     ensures out_after { out.new ≡ out_node_of (store words.now bytes.now) j out.old }
 {
-    sites::one::hydra_site_node(words, bytes, j, out)
+    node::code(sites::one::hydra_site_node(words, bytes, j, out))
 }

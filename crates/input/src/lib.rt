@@ -1,59 +1,35 @@
 // Standard input of the desk's programs: a script, read to the start of a lent buffer.
 #![tactic(auto)]
 
-ghost use Rattle.std.specs.Prelude.{◌≤◌, length};
+ghost use Rattle.std.specs.Prelude.{IfOk};
 ghost use Rattle.input.specs.Counts.{IsPrefixLen};
 
 use std::env::{Env, FillError};
 use std::io::{Print, Read};
 
-// How many bytes of the input stand at the start of a buffer, and whether there is nothing to run: a read failed before the input ended, or
-// the program was given arguments.
-#[derive(Clone, Copy)]
-pub struct Input {
-    pub length: usize,
-    pub failed: bool,
+// Why there is nothing to run: the program was given arguments, or a read failed before the input ended.
+#[derive(Clone, Copy, Debug, PartialEq, Eq)]
+pub enum InputError {
+    Arguments,
+    Unread,
 }
 
-// One read of an input to the start of a buffer. Length 0 without a failure is the input's end. Which bytes came, no contract of a read
-// says.
-fn read_once<R: Read>(from: &mut R, buffer: &mut [u8]) -> Input
-    ensures { result.length ≤ length buffer.old }
-{
-    match from.read(buffer) {
-        Ok(length) => Input {
-            length,
-            failed: false,
-        },
-        Err(_) => Input {
-            length: 0,
-            failed: true,
-        },
-    }
-}
-
-// Reads an input until it ends, the buffer is full, or a read fails.
-fn read_input<R: Read>(from: &mut R, buffer: &mut [u8]) -> Input
-    ensures { IsPrefixLen result.length buffer.new }
+// Reads an input until it ends, the buffer is full, or a read fails: how many bytes stand at the start of the buffer. Which bytes came, no
+// contract of a read says.
+fn read_input<R: Read>(from: &mut R, buffer: &mut [u8]) -> Result<usize, InputError>
+    ensures { IfOk result (λ n. IsPrefixLen n buffer.new) }
 {
     let mut n = 0usize;
     while n < buffer.len() {
-        let more = read_once(from, &mut buffer[n..]);
-        if more.failed {
-            return Input {
-                length: n,
-                failed: true,
-            };
-        }
-        if more.length == 0 {
+        let Ok(more) = from.read(&mut buffer[n..]) else {
+            return Err(InputError::Unread);
+        };
+        if more == 0 {
             break;
         }
-        n += more.length;
+        n += more;
     }
-    Input {
-        length: n,
-        failed: false,
-    }
+    Ok(n)
 }
 
 // Whether a program was given arguments: one stands behind its name. It need not fit anywhere.
@@ -61,20 +37,22 @@ fn has_arguments(rt: &HostRuntime) -> bool {
     !matches!(rt.arg(1, &mut []), Err(FillError::NotPresent))
 }
 
-// The script of a program that takes no arguments, from standard input. It writes `usage` to standard error if there are some, and `unread`
-// if a read failed.
-pub fn script(rt: &HostRuntime, buffer: &mut [u8], usage: &[u8], unread: &[u8]) -> Input
-    ensures { IsPrefixLen result.length buffer.new }
+// The script of a program that takes no arguments, from standard input: how many bytes it has. It writes `usage` to standard error if there
+// are arguments, and `unread` if a read failed.
+pub fn script(
+    rt: &HostRuntime,
+    buffer: &mut [u8],
+    usage: &[u8],
+    unread: &[u8],
+) -> Result<usize, InputError>
+    ensures { IfOk result (λ n. IsPrefixLen n buffer.new) }
 {
     if has_arguments(rt) {
         let _ = rt.stderr().write_all(usage);
-        return Input {
-            length: 0,
-            failed: true,
-        };
+        return Err(InputError::Arguments);
     }
     let input = read_input(&mut rt.stdin(), buffer);
-    if input.failed {
+    if input.is_err() {
         let _ = rt.stderr().write_all(unread);
     }
     input

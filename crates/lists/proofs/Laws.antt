@@ -1,7 +1,8 @@
 -- Laws of lists of bytes.
 -- Assumes nothing.
 use mathlib.Core.Path.{◌≡◌, refl, sym, ap, ap₂, ◌∙◌}
-use mathlib.Core.Bool.{Bool, true, false, ◌&&◌, and-false}
+use mathlib.Core.Bool.{Bool, true, false, ◌&&◌}
+use lib.Pointwise.{pointwise}
 use mathlib.Core.List.{List, [], ◌∷◌, ◌++◌, append_assoc, append-nil}
 use Prim.Native.Nat.{ℕ, zero, suc, min, ◌+◌, ◌-◌, ◌*◌, ◌/◌, ◌%◌, ◌≤◌, ◌<◌}
 use native.Mathlib.Omega.{arith}
@@ -13,7 +14,7 @@ use lib.Dec.{eqb, ltb}
 use lib.ListN.{length, get_or, set, replicate, take, drop, length-append, length-take, length-drop, drop_of_length-le, get_or-append}
 use lib.Seq.{ext_get_or, get_or-take, get_or_at, drop-cons, set_at, take_at, take-suc, take_all, drop-append-add, drop-drop, get_or-drop}
 use lib.Seq.{length-take-le}
-use Rattle.words.proofs.Tests.{never, same_or_not, hit, skip, both, and_left, and_right}
+use Rattle.words.proofs.Tests.{never, same_or_not, both, and_left, and_right}
 use borrow.Rule.Slice.PartMut.{put_mid, Post-is}
 use Rattle.lists.specs.All.{iter, all_below, tab, same}
 use Rattle.lists.specs.Bytes.{bytes32, flat, window, span, written}
@@ -102,13 +103,6 @@ module _ {A : Type 0} where
   tab-ext (suc n) f g h = ap₂ (λ (l : List A) (x : A). l ++ (x ∷ [])) (tab-ext n f g (λ i l. h i (omega arith))) (h n (omega arith))
 
 -- comparison
-pub same-lengths : (s t : List ℕ) → (length s ≡ length t → ⊥) → same s t ≡ false
-unfolding same
-same-lengths [] [] h = absurd (h refl)
-same-lengths [] (y ∷ t) h = refl
-same-lengths (x ∷ s) [] h = refl
-same-lengths (x ∷ s) (y ∷ t) h = ap (λ (b : Bool). eqb x y && b) (same-lengths s t (λ e. h (ap suc e))) ∙ and-false (eqb x y)
-
 pub same_refl : (s : List ℕ) → same s s ≡ true
 unfolding same
 same_refl [] = refl
@@ -216,15 +210,22 @@ unfolding all_below
 all-make zero p h = refl
 all-make (suc n) p h = both (all-make n p (λ i l. h i (omega arith))) (h n (omega arith))
 
+-- n numbers that are those from a place on
+pub window-is : (n : ℕ) (s l : List ℕ) (at : ℕ) → length l ≡ n → ((i : ℕ) → i < n → get_or l i 0 ≡ get_or s (at + i) 0) → l ≡ window n s at
+window-is n s l at e h =
+    let d : length (window n s at) ≡ n = length-tab n (λ i. get_or s (at + i) 0) in
+    ext_get_or 0 l (window n s at) (e ∙ sym d)
+    (λ i k. let j : i < n = omega arith in h i j ∙ sym (get_d-tab 0 n (λ i. get_or s (at + i) 0) i j))
+
+-- as the first n of what stands there
+pub window-front : (n : ℕ) (s : List ℕ) (at : ℕ) → n ≤ length (drop at s) → take n (drop at s) ≡ window n s at
+window-front n s at h =
+    window-is n s (take n (drop at s)) at (length-take-le n (drop at s) h)
+    (λ i k. get_or-take n (drop at s) i 0 k ∙ get_or-drop at s i 0)
+
 -- bytes read at a place are the bytes that stand there
 pub window-span : (n : ℕ) (l : List ℕ) (at : ℕ) → at + n ≤ length l → window n l at ≡ span l at n
-window-span n l at h =
-    let e : length (window n l at) ≡ n = length-tab n (λ i. get_or l (at + i) 0) in
-    let d : length (drop at l) ≡ length l - at = length-drop at l in
-    ext_get_or 0 (window n l at) (span l at n) (e ∙ sym (length-take-le n (drop at l) (omega arith)))
-    (λ i k.
-    let j : i < n = omega arith in
-    get_d-tab 0 n (λ i. get_or l (at + i) 0) i j ∙ sym (get_or-take n (drop at l) i 0 j ∙ get_or-drop at l i 0))
+window-span n l at h = sym (window-front n l at (simp length-drop (omega arith)))
 
 -- comparison, element by element
 pub same-all : (s t : List ℕ) → length s ≡ length t → all_below (length s) (λ i. eqb (get_or s i 0) (get_or t i 0)) ≡ same s t
@@ -241,6 +242,14 @@ same-all s t l = go (all_below (length s) p) (same s t) refl refl
         let q : s ≡ t = same-eq s t f in
         all-make (length s) p (λ i k. eq-eqb (get_or s i 0) (get_or t i 0) (ap (λ (u : List ℕ). get_or u i 0) q)) ∙ sym f
     go false false e f = e ∙ sym f
+
+-- as std compares two lists
+pub same_pointwise : (s t : List ℕ) → pointwise eqb s t ≡ same s t
+unfolding same
+same_pointwise [] [] = refl
+same_pointwise [] (y ∷ t) = refl
+same_pointwise (x ∷ s) [] = refl
+same_pointwise (x ∷ s) (y ∷ t) = ap (λ (b : Bool). eqb x y && b) (same_pointwise s t)
 
 -- a front that ends with the list
 pub cut : (l : List ℕ) (m k : ℕ) → k ≡ min m (length l) → (take k l ≡ take m l) × (drop k l ≡ drop m l)

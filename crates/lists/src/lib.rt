@@ -1,7 +1,7 @@
 // Lists of bytes: read, compared, tested and written.
 #![tactic(auto)]
 
-ghost use Rattle.std.specs.Prelude.{◌≡◌, ℕ, min, ◌+◌, ◌*◌, ◌≤◌, get_or, length};
+ghost use Rattle.std.specs.Prelude.{◌≡◌, ◌+◌, ◌*◌, get_or, drop};
 ghost use Rattle.lists.specs.All.{same, at_most, bounded};
 ghost use Rattle.lists.specs.Bytes.{word32, bytes32, window, Tried};
 
@@ -9,116 +9,95 @@ ghost use Rattle.lists.specs.Bytes.{word32, bytes32, window, Tried};
 pub fn byte(s: &[u8], i: usize) -> u8
     ensures { result ≡ get_or s.now i 0 }
 {
-    if i < s.len() { s[i] } else { 0 }
+    s.get(i).copied().unwrap_or(0)
 }
 
 // The number of four bytes, highest first.
 pub fn join(a: u8, b: u8, c: u8, d: u8) -> u32
     ensures { result ≡ a * 16777216 + b * 65536 + c * 256 + d }
 {
-    (a as u32) * 16777216 + (b as u32) * 65536 + (c as u32) * 256 + (d as u32)
+    u32::from_be_bytes([a, b, c, d])
 }
 
 // The number in the four bytes at a place.
 pub fn word(s: &[u8], at: u32) -> u32
     ensures { result ≡ word32 s.now at }
 {
-    let i = at as usize;
-    join(byte(s, i), byte(s, i + 1), byte(s, i + 2), byte(s, i + 3))
+    let l = window::<4>(s, at as usize);
+    u32::from_be_bytes(l)
 }
 
 // A number's four bytes, highest first.
 pub fn word_bytes(x: u32) -> [u8; 4]
     ensures { result ≡ bytes32 x }
 {
-    [
-        (x / 16777216 % 256) as u8,
-        (x / 65536 % 256) as u8,
-        (x / 256 % 256) as u8,
-        (x % 256) as u8,
-    ]
+    x.to_be_bytes()
 }
 
-// The 32 bytes from a place on, where all are there: without a test at each, which is two moves of a vector.
-fn short_at(s: &[u8], from: usize) -> [u8; 32]
-    requires { from + 32 ≤ length s.now }
-    ensures { result ≡ window 32 s.now from }
+// What stands from a place on.
+fn behind(s: &[u8], at: usize) -> &[u8]
+    ensures { result.now ≡ drop at s.now }
 {
-    let mut l = [0u8; 32];
-    for i in 0..32usize {
-        l[i] = s[from + i];
+    s.get(at..).unwrap_or(&[])
+}
+
+// The N bytes from a place on where some are missing: apart, so that `window` stays small where it is called.
+#[inline(never)]
+fn padded<const N: usize>(s: &[u8], at: usize) -> [u8; N]
+    ensures { result ≡ window N s.now at }
+{
+    let rest = behind(s, at);
+    let mut l = [0u8; N];
+    for (i, x) in l.iter_mut().enumerate() {
+        *x = byte(rest, i);
     }
     l
+}
+
+// The N bytes from a place on, 0 behind the end. Where all are there they are read without a test at each.
+#[inline(always)]
+pub fn window<const N: usize>(s: &[u8], at: usize) -> [u8; N]
+    ensures { result ≡ window N s.now at }
+{
+    let rest = behind(s, at);
+    match rest.first_chunk::<N>() {
+        Some(l) => *l,
+        None => padded(s, at),
+    }
 }
 
 // The 32 bytes from a place on, 0 behind the end.
 pub fn short(s: &[u8], at: u32) -> [u8; 32]
     ensures { result ≡ window 32 s.now at }
 {
-    let from = at as usize;
-    if from + 32 <= s.len() {
-        return short_at(s, from);
-    }
-    let mut l = [0u8; 32];
-    for i in 0..32usize {
-        l[i] = byte(s, from + i);
-    }
-    l
+    window(s, at as usize)
 }
 
-// Whether two slices have the same bytes. No early return: the loop is one comparison of words.
+// Whether two slices have the same bytes.
+#[tactic(auto, using(crate::proofs::Laws::same_pointwise))]
 pub fn equal(s: &[u8], t: &[u8]) -> bool
     ensures { result ≡ same s.now t.now }
 {
-    if s.len() != t.len() {
-        return false;
-    }
-    let n = s.len();
-    let mut ok = true;
-    let mut i: usize = 0;
-    while i < n {
-        let one = s[i] == t[i];
-        ok = ok & one;
-        i += 1;
-    }
-    ok
+    s == t
 }
 
-fn wide(x: u8) -> u32
-    ensures { result ≡ x }
-{
-    x as u32
-}
-
-// Whether each byte is at most the top.
+// Whether each byte is at most the top. No early return, so that the loop tests many bytes at once.
 fn all_at_most(s: &[u8], top: u32) -> bool
     ensures { result ≡ at_most s.now top }
 {
-    let n = s.len();
     let mut ok = true;
-    let mut i: usize = 0;
-    while i < n {
-        let one = wide(s[i]) <= top;
-        ok = ok & one;
-        i += 1;
+    for &b in s {
+        ok = ok & (u32::from(b) <= top);
     }
     ok
-}
-
-fn smaller(a: usize, b: usize) -> usize
-    ensures { result ≡ min a b }
-{
-    if b < a { b } else { a }
 }
 
 // Whether the first m bytes are at most the top, and the others 0.
 pub fn all_fit(s: &[u8], m: u32, top: u32) -> bool
     ensures { result ≡ bounded s.now m top }
 {
-    let k = smaller(m as usize, s.len());
-    let front = all_at_most(&s[..k], top);
-    let rest = all_at_most(&s[k..], 0);
-    front & rest
+    let (front, rest) = s.split_at(s.len().min(m as usize));
+    all_at_most(front, top) & all_at_most(rest, 0)
 }
 
 // Bytes at a place, if there is room for them: the next place. Without room nothing changes, and the place stays.
@@ -131,10 +110,7 @@ pub fn put_bytes(out: &mut [u8], at: usize, s: &[u8]) -> usize
     if out.len() - at < s.len() {
         return at;
     }
-    let mut i: usize = 0;
-    while i < s.len() {
-        out[at + i] = s[i];
-        i += 1;
-    }
-    at + i
+    let next = at + s.len();
+    out[at..next].copy_from_slice(s);
+    next
 }

@@ -1,3 +1,5 @@
+pub mod Refused
+pub mod Made
 pub mod Writes
 pub mod Turns
 pub mod Laws

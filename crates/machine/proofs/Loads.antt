@@ -14,8 +14,7 @@ use Rattle.lists.proofs.Laws.{iter-inv, tab-ext, length-written}
 use Rattle.allotment.specs.Allotment.{free}
 use Rattle.node.specs.Begin.{starting}
 use Rattle.node.specs.Core.{core_of, bare}
-use Rattle.node.specs.declared.Answer.{Answer}
-use Rattle.node.specs.declared.Answer.TheVariants.{Done, NoRoom}
+use Rattle.node.specs.Answers.{Answer, Done, NoRoom}
 use Rattle.node.specs.declared.Move.TheVariants.{Free}
 use Rattle.node.proofs.Bare.{begun-bare, waiting-bare}
 use Rattle.node.proofs.Made.{given, restarted}

@@ -27,7 +27,7 @@ use Rattle.allotment.proofs.Schedules.{owners-made, owner_at}
 use Rattle.allotment.proofs.OwnSlots.{own-bit, own-lt, owns-own}
 use Rattle.allotment.proofs.TwoWords.{count-cat}
 use Rattle.machine.specs.Acts.{no_node_at}
-use Rattle.machine.specs.Layout.{Store, bytes_size, config_in, schedules_at}
+use Rattle.machine.specs.Layout.{Store, schedules_at}
 use Rattle.machine.specs.Loading.{member_read, node_owners_written}
 use Rattle.machine.proofs.Whole.{at_place, schedule-read}
 

@@ -1,4 +1,3 @@
 -- One event of a site with windows, tally and report.
 pub mod Held
 pub mod Laws
-pub mod Seen

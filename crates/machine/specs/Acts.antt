@@ -2,8 +2,7 @@
 -- Assumes nothing.
 use Rattle.std.specs.Prelude.{Bool, cond, ◌||◌, ℕ, ◌-◌, replicate}
 use Rattle.node.specs.Negotiation.{packet_of, hear_answer, heard_node}
-use Rattle.node.specs.declared.Answer.{Answer}
-use Rattle.node.specs.declared.Answer.TheVariants.{NoSuchNode}
+use Rattle.node.specs.Answers.{Answer, NoSuchNode}
 use Rattle.node.specs.declared.Packet.{Packet}
 use Rattle.site.specs.Members.{outside, with_node}
 use Rattle.machine.specs.Layout.{Store, too_short, config_in, node_in, stored_in}

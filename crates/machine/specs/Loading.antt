@@ -5,8 +5,7 @@ use Rattle.words.specs.Bits.{how_many}
 use Rattle.lists.specs.All.{iter}
 use Rattle.lists.specs.Bytes.{written}
 use Rattle.allotment.specs.Allotment.{top_slots, owner_of, owners_of}
-use Rattle.node.specs.declared.Answer.{Answer}
-use Rattle.node.specs.declared.Answer.TheVariants.{Done, NoRoom}
+use Rattle.node.specs.Answers.{Answer, Done, NoRoom}
 use Rattle.site.specs.Load.{loaded_member, loaded_site}
 use Rattle.site.specs.Counts.{none_sent}
 use Rattle.node.specs.Figures.{no_config}

@@ -5,19 +5,19 @@ ghost use Rattle.machine.specs.Layout.{store, words_size, bytes_size};
 ghost use Rattle.machine.specs.Written.{demanded, taken_at};
 ghost use Rattle.machine.specs.Acts.{no_node_at, no_packet, packet_sent, hear_read, heard_put, wanted_put, taken_put};
 
-use crate::layout::{BYTES, NODE_BYTES, SCHEDULE, WORDS};
-use crate::read::{core_at, header_at, is_up, version_at};
+use crate::layout::{Lent, NODE_BYTES, SCHEDULE};
+use crate::read::{is_short, is_up};
 use crate::write::{move_schedules, put_demand, put_front, put_row};
-use node::{Answer, Core, Packet};
+use node::{Answer, Core, Packet, Refusal};
 
 // Whether the storage is too short, or the number is none of the N nodes'.
 pub(crate) fn no_node(words: &[u32], bytes: &[u8], j: u32) -> bool
     ensures { result ≡ no_node_at (store words.now bytes.now) j }
 {
-    if (words.len() < WORDS) | (bytes.len() < BYTES) {
+    if is_short(words, bytes) {
         return true;
     }
-    let k = header_at(words, bytes);
+    let k = Lent { words, bytes }.header();
     k.outside(j)
 }
 
@@ -40,7 +40,7 @@ pub fn packet(words: &[u32], bytes: &[u8], j: u32) -> Packet
     if no_node(words, bytes, j) {
         return no_packet();
     }
-    let c = core_at(words, bytes, site::node_index(j));
+    let c = Lent { words, bytes }.core(site::node_index(j));
     let s = c.send();
     s.packet
 }
@@ -50,13 +50,14 @@ pub fn hear_answer(words: &[u32], bytes: &[u8], j: u32, q: Packet) -> Answer
     ensures { result ≡ hear_read (store words.now bytes.now) j q }
 {
     if no_node(words, bytes, j) {
-        return Answer::NoSuchNode;
+        return Err(Refusal::NoSuchNode);
     }
-    let c = core_at(words, bytes, site::node_index(j));
+    let c = Lent { words, bytes }.core(site::node_index(j));
     c.hear_answer(q)
 }
 
 // The next core of the node at an index in place of the one that stands there. Whether the node is up, and its schedules, stay.
+// Kept: lengths in `requires`. In a struct of two `&mut`, two more clauses would say that each field is the reference it was.
 fn put_next(words: &mut [u32], bytes: &mut [u8], i: usize, next: Core)
     requires { (i < 32) × (words_size ≤ length words.old) × (bytes_size ≤ length bytes.old) }
     ensures words_after { words.new ≡ (next_put (store words.old bytes.old) i next).words }
@@ -76,7 +77,7 @@ pub fn hear(words: &mut [u32], bytes: &mut [u8], j: u32, q: Packet)
         return;
     }
     let i = site::node_index(j);
-    let c = core_at(words, bytes, i);
+    let c = Lent { words, bytes }.core(i);
     put_next(words, bytes, i, c.hear(q));
 }
 
@@ -85,7 +86,7 @@ pub(crate) fn want_at(words: &[u32], bytes: &mut [u8], i: usize, d: u8)
     requires { (i < 32) × (words_size ≤ length words.now) × (bytes_size ≤ length bytes.old) }
     ensures { bytes.new ≡ (demanded (store words.now bytes.old) i d).bytes }
 {
-    let c = core_at(words, bytes, i);
+    let c = Lent { words, bytes }.core(i);
     let next = c.want(d);
     put_demand(bytes, i, next.demand);
 }
@@ -107,8 +108,9 @@ fn take_from(words: &mut [u32], bytes: &mut [u8], i: usize, h: usize)
     ensures bytes_after { bytes.new ≡ (taken_at (store words.old bytes.old) i h).bytes }
 {
     let up = is_up(bytes, i);
-    let c = core_at(words, bytes, i);
-    let o = c.take(version_at(words, h));
+    let m = Lent { words, bytes };
+    let c = m.core(i);
+    let o = c.take(m.version(h));
     let next = o.core;
     let change = o.change;
     masks::copy(bytes, NODE_BYTES * h + SCHEDULE, NODE_BYTES * i + SCHEDULE);

@@ -1,15 +1,17 @@
 // One event of a site in lent words and bytes, for every call: with windows, a tally and the report of a close.
-ghost use Rattle.std.specs.Prelude.{◌≡◌, [], ◌≤◌, length};
-ghost use Rattle.windows.specs.Copies.{windows_in};
-ghost use Rattle.machine.specs.Layout.{store, site_in, words_size, bytes_size};
+ghost use Rattle.std.specs.Prelude.{◌≡◌, []};
+ghost use Rattle.machine.specs.Layout.{store, site_in};
 ghost use Rattle.machine.specs.combined.Kept.{first_refusal};
-ghost use Rattle.machine.specs.combined.Stored.{kept_in, report_too_short, lent_too_short, step_store, step_report, step_kept, step_result};
-ghost use Rattle.machine.specs.combined.Inner.{objection, tally_behind};
+ghost use Rattle.machine.specs.combined.Stored.{kept_in, report_too_short, lent_too_short, step_answer, step_store, step_report, step_kept};
+ghost use Rattle.machine.specs.combined.Inner.{objection};
 
-use crate::{BYTES, Day, StepResult, WORDS};
-use node::Answer;
+use crate::Day;
+use crate::layout::Lent;
+use crate::read::is_short;
+use node::{Answer, Refusal};
 use site::{Event, SiteHeader};
 use tally::Tally;
+use windows::Window;
 
 // Whether an output has bytes, and too few for a report.
 pub fn report_too_short(out: &[u8]) -> bool
@@ -22,100 +24,67 @@ pub fn report_too_short(out: &[u8]) -> bool
 pub fn too_few(words: &[u32], bytes: &[u8], area: &[u8], out: &[u8]) -> bool
     ensures { result ≡ lent_too_short (store words.now bytes.now) area.now out.now }
 {
-    let short = (words.len() < WORDS) | (bytes.len() < BYTES);
-    short | ((area.len() < SiteHeader::AREA) | report_too_short(out))
+    is_short(words, bytes) | ((area.len() < SiteHeader::AREA) | report_too_short(out))
 }
 
 // The first of two answers that refuses.
 pub fn first_of(a: Answer, b: Answer) -> Answer
     ensures { result ≡ first_refusal a b }
 {
-    if node::is_done(a) {
-        return b;
-    }
-    a
+    a?;
+    b
 }
 
 // What an end has against its tally, and any other event against its list; `timed` tests the list of an end.
-fn objection(words: &[u32], bytes: &[u8], day: Day, e: Event, w: &[u32], t: Tally) -> Answer
-    requires { (words_size ≤ length words.now) × (bytes_size ≤ length bytes.now) }
-    ensures { result ≡ objection (kept_in (store words.now bytes.now) day [] t) (windows_in w.now) e }
+fn objection(m: Lent, day: Day, e: Event, w: &[Window], t: Tally) -> Answer
+    ensures { result ≡ objection (kept_in (store m.entry.words.now m.entry.bytes.now) day [] t) w.now e }
 {
     if site::is_end(e) {
         if t.is_valid() {
-            return Answer::Done;
+            return Ok(());
         }
-        return Answer::NotANode;
+        return Err(Refusal::NotANode);
     }
-    let k = crate::look::header(words, bytes);
+    let k = m.header();
     let f = k.config;
     if windows::list_ok(w, f.nodes, day.length) {
-        return Answer::Done;
+        return Ok(());
     }
-    Answer::BadWindows
+    Err(Refusal::BadWindows)
 }
 
-// The tally behind an event: an accepted end counts the site.
-fn tally_behind(words: &[u32], bytes: &[u8], e: Event, a: Answer, t: Tally) -> Tally
-    requires { (words_size ≤ length words.now) × (bytes_size ≤ length bytes.now) }
-    ensures { result ≡ tally_behind (site_in (store words.now bytes.now)) e a t }
-{
-    if site::is_end(e) & node::is_done(a) {
-        return crate::epochs::tally_at(words, bytes, t);
-    }
-    t
-}
-
-// One event. Windows are in words, four for each. The report of an accepted close goes to the start of `out`.
+// One event. The report of an accepted close goes to the start of `out`, and an accepted end counts the site.
 pub fn step(
     words: &mut [u32],
     bytes: &mut [u8],
     area: &mut [u8],
-    day: Day,
+    day: &mut Day,
     e: Event,
-    w: &[u32],
-    t: Tally,
+    w: &[Window],
+    t: &mut Tally,
     out: &mut [u8],
-) -> StepResult
-    ensures value { result ≡ step_result (store words.old bytes.old) day area.old (windows_in w.now) t
-        out.old e }
+) -> Answer
+    ensures value { result ≡ step_answer (store words.old bytes.old) day.old area.old w.now t.old out.old e }
     ensures words_after { words.new
-        ≡ (step_store (store words.old bytes.old) day area.old (windows_in w.now) t
-        out.old e).words }
+        ≡ (step_store (store words.old bytes.old) day.old area.old w.now t.old out.old e).words }
     ensures bytes_after { bytes.new
-        ≡ (step_store (store words.old bytes.old) day area.old (windows_in w.now) t
-        out.old e).bytes }
+        ≡ (step_store (store words.old bytes.old) day.old area.old w.now t.old out.old e).bytes }
     ensures out_after { out.new
-        ≡ step_report (store words.old bytes.old) day area.old (windows_in w.now) t
-        out.old e }
-    ensures tally_after { kept_in (store words.new bytes.new) result.day area.new result.tally
-        ≡ step_kept (store words.old bytes.old) day area.old (windows_in w.now) t
-        out.old e }
+        ≡ step_report (store words.old bytes.old) day.old area.old w.now t.old out.old e }
+    ensures kept_after { kept_in (store words.new bytes.new) day.new area.new t.new
+        ≡ step_kept (store words.old bytes.old) day.old area.old w.now t.old out.old e }
 {
     if too_few(words, bytes, area, out) {
-        return StepResult {
-            code: node::code(Answer::NoRoom),
-            day,
-            tally: t,
-        };
+        return Err(Refusal::NoRoom);
     }
-    let o = objection(words, bytes, day, e, w, t);
-    if !node::is_done(o) {
-        let a = crate::steps::answer_to(words, bytes, area, e);
-        return StepResult {
-            code: node::code(first_of(a, o)),
-            day,
-            tally: t,
-        };
+    let o = objection(Lent { words, bytes }, *day, e, w, *t);
+    if o.is_err() {
+        return first_of(crate::steps::answer_to(words, bytes, area, e), o);
     }
     crate::reports::put(words, bytes, area, e, out);
-    let r = crate::timed::step(words, bytes, area, day, e, w);
-    let a = r.answer;
-    let next = r.day;
-    let tally = tally_behind(words, bytes, e, a, t);
-    StepResult {
-        code: node::code(a),
-        day: next,
-        tally,
+    crate::timed::step(words, bytes, area, day, e, w)?;
+    if site::is_end(e) {
+        *t = crate::epochs::tally_at(Lent { words, bytes }, *t);
     }
+    Ok(())
 }

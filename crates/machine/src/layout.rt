@@ -1,4 +1,6 @@
 // Where each number of a site stands in its words and bytes (specs/Layout). No other file has these offsets as numbers.
+ghost use Rattle.std.specs.Prelude.{◌≤◌, length};
+ghost use Rattle.machine.specs.Layout.{words_size, bytes_size};
 
 // The words and the bytes of a node.
 pub(crate) const NODE_WORDS: usize = 8;
@@ -33,3 +35,11 @@ pub(crate) const PHASE: usize = 24768;
 pub const WORDS: usize = 262;
 
 pub const BYTES: usize = 24769;
+
+// Lent words and bytes that are long enough for a site.
+#[derive(Clone, Copy)]
+pub(crate) struct Lent<'a> {
+    pub(crate) words: &'a [u32],
+    pub(crate) bytes: &'a [u8],
+    ghost long: { (words_size ≤ length words.now) × (bytes_size ≤ length bytes.now) },
+}

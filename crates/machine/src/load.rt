@@ -8,23 +8,21 @@ ghost use Rattle.machine.specs.Inner.{member_of};
 ghost use Rattle.machine.specs.Layout.{store, at_config, site_in, words_size, bytes_size};
 ghost use Rattle.machine.specs.Loading.{loaded_at, loading_answer, loaded_store, site_loaded};
 
-use crate::layout::{BYTES, NODES, WORDS};
+use crate::layout::NODES;
 use crate::places;
-use crate::write::{put_free, put_phase, put_six};
-use node::{Answer, Config, Core, Setup};
+use crate::read::is_short;
+use crate::write::{put_free, put_phase};
+use node::{Answer, Config, Core, Refusal, Setup};
 use site::Table;
 
 // The figures and the first place.
+// Kept: the length in `requires`, as in `put_nodes`: a struct of two `&mut` needs clauses of both references' names instead.
 fn put_config(words: &mut [u32], f: Config)
     requires { words_size ≤ length words.old }
     ensures { words.new
         ≡ written words.old at_config (f.nodes ∷ f.slots ∷ f.rounds ∷ f.min_heard ∷ f.split ∷ 0 ∷ []) }
 {
-    put_six(
-        words,
-        NODES,
-        [f.nodes, f.slots, f.rounds, f.min_heard, f.split, 0],
-    );
+    words[NODES..NODES + 6].copy_from_slice(&[f.nodes, f.slots, f.rounds, f.min_heard, f.split, 0]);
 }
 
 // The core of the node at an index as a site is loaded.
@@ -63,14 +61,11 @@ pub fn begin_site(words: &mut [u32], bytes: &mut [u8], f: Config, t: Table) -> A
     ensures bytes_after_2 { site_in (store words.new bytes.new)
         ≡ site_loaded (store words.old bytes.old) f t }
 {
-    if words.len() < WORDS {
-        return Answer::NoRoom;
-    }
-    if bytes.len() < BYTES {
-        return Answer::NoRoom;
+    if is_short(words, bytes) {
+        return Err(Refusal::NoRoom);
     }
     put_config(words, f);
-    put_phase(bytes, 1);
+    put_phase(bytes, true);
     put_nodes(words, bytes, f, t);
-    Answer::Done
+    Ok(())
 }

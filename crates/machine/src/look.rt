@@ -8,8 +8,8 @@ ghost use Rattle.machine.specs.Written.{member_put};
 ghost use Rattle.machine.specs.Loading.{no_header, header_read, member_read, slots_read, node_owners_written};
 
 use crate::acts::no_node;
-use crate::layout::{BYTES, NODE_BYTES, SCHEDULE, WORDS};
-use crate::read::{core_at, header_at, own_slots};
+use crate::layout::{Lent, NODE_BYTES, SCHEDULE};
+use crate::read::{is_short, is_up, own_slots, phase_at};
 use crate::write::put_free;
 use node::{Config, Core, Phase, Setup};
 use site::{SiteHeader, State};
@@ -18,9 +18,8 @@ use site::{SiteHeader, State};
 fn no_header() -> SiteHeader
     ensures { result ≡ no_header }
 {
-    let config = Config::none();
     SiteHeader {
-        config,
+        config: Config::none(),
         negotiates: true,
         place: 0,
         sent: [0u8; 32],
@@ -28,33 +27,34 @@ fn no_header() -> SiteHeader
 }
 
 // What the site holds beside its members.
+#[tactic(auto, unfolding(crate::specs::Loading::header_read))]
 pub fn header(words: &[u32], bytes: &[u8]) -> SiteHeader
     ensures { result ≡ header_read (store words.now bytes.now) }
 {
-    if (words.len() < WORDS) | (bytes.len() < BYTES) {
+    if is_short(words, bytes) {
         return no_header();
     }
-    header_at(words, bytes)
+    Lent { words, bytes }.header()
 }
 
 // The core of node j. A number of none of the N nodes has a member that is down, here and in the next four.
 pub fn core(words: &[u32], bytes: &[u8], j: u32) -> Core
     ensures { result ≡ core_of (member_read (store words.now bytes.now) j).node }
 {
-    if (words.len() < WORDS) | (bytes.len() < BYTES) {
+    if is_short(words, bytes) {
         let setup = Setup {
             node: j,
             config: Config::none(),
         };
         return Core::restart(setup, 0, 0);
     }
-    let k = header_at(words, bytes);
+    let k = Lent { words, bytes }.header();
     if k.outside(j) {
         let f = k.config;
         let setup = Setup { node: j, config: f };
         return Core::restart(setup, 0, 0);
     }
-    core_at(words, bytes, site::node_index(j))
+    Lent { words, bytes }.core(site::node_index(j))
 }
 
 // Whether it is live.
@@ -114,22 +114,21 @@ pub fn state(words: &[u32], bytes: &[u8], j: u32) -> State
 pub fn up(bytes: &[u8], j: u32) -> bool
     ensures { result ≡ up_in bytes.now (node_index j) }
 {
-    lists::byte(bytes, NODE_BYTES * site::node_index(j)) == 1
+    is_up(bytes, site::node_index(j))
 }
 
 // Its phase.
 pub fn phase(bytes: &[u8], j: u32) -> Phase
     ensures { result ≡ phase_in bytes.now (node_index j) }
 {
-    wire::phase_of(lists::byte(bytes, NODE_BYTES * site::node_index(j) + 3))
+    phase_at(bytes, site::node_index(j))
 }
 
 // Whether it is up and doesn't wait.
 pub fn live(bytes: &[u8], j: u32) -> bool
     ensures { result ≡ (up_in bytes.now (node_index j) && not (is_waiting (phase_in bytes.now (node_index j)))) }
 {
-    let p = phase(bytes, j);
-    up(bytes, j) & !node::is_waiting(p)
+    crate::read::is_live(bytes, site::node_index(j))
 }
 
 // Node j has this core from now on, and all slots free; a number of none of the N nodes writes nothing.
@@ -139,10 +138,10 @@ pub fn set_free(words: &mut [u32], bytes: &mut [u8], j: u32, up: bool, c: Core)
     ensures bytes_after { bytes.new
         ≡ (member_put (store words.old bytes.old) j (record { up = up; node = bare c })).bytes }
 {
-    if (words.len() < WORDS) | (bytes.len() < BYTES) {
+    if is_short(words, bytes) {
         return;
     }
-    let k = header_at(words, bytes);
+    let k = Lent { words, bytes }.header();
     if k.outside(j) {
         return;
     }

@@ -2,43 +2,26 @@
 ghost use Rattle.std.specs.Prelude.{◌≡◌, true, false};
 ghost use Rattle.machine.specs.Layout.{store, too_short, site_in};
 ghost use Rattle.machine.specs.Loading.{member_read};
-ghost use Rattle.machine.specs.reports.Reports.{no_node_report, member_report, report_of, reported_in, node_report_in, report_byte};
+ghost use Rattle.machine.specs.reports.Reports.{member_report, report_of, reported_in, node_report_in, report_byte};
 ghost use Rattle.machine.specs.reports.Reports.{report_bytes};
 ghost use Rattle.machine.specs.reports.Reports.{put_report};
 
-use crate::{NodeReport, Report};
-use node::{Ground, Rule};
+use crate::Report;
+use node::Ground;
 use site::Event;
 
 // The bytes of a report: two for each of 32 nodes.
 pub const SIZE: usize = 64;
 
-// A node that reports nothing.
-pub fn no_report() -> NodeReport
-    ensures { result ≡ no_node_report }
-{
-    NodeReport {
-        live: false,
-        grounds: Ground {
-            rule: Rule::RequestMissing,
-            missing: 0,
-        },
-    }
-}
-
 // What node j reports of an accepted close: a live node its ground, any other nothing.
-fn tell(words: &[u32], bytes: &[u8], j: u32) -> NodeReport
+fn tell(words: &[u32], bytes: &[u8], j: u32) -> Option<Ground>
     ensures { result ≡ member_report true (member_read (store words.now bytes.now) j) }
 {
     if crate::look::is_live(words, bytes, j) {
         let c = crate::look::core(words, bytes, j);
-        let grounds = c.ground();
-        return NodeReport {
-            live: true,
-            grounds,
-        };
+        return Some(c.ground());
     }
-    no_report()
+    None
 }
 
 // Whether an event, were it the next one, would be an accepted close.
@@ -48,15 +31,15 @@ fn reports(words: &[u32], bytes: &[u8], area: &[u8], e: Event) -> bool
     if !site::is_close(e) {
         return false;
     }
-    node::is_done(crate::steps::answer_to(words, bytes, area, e))
+    crate::steps::answer_to(words, bytes, area, e).is_ok()
 }
 
 // What node j reports of an event, were it the next one; nothing is written.
-pub fn node_report(words: &[u32], bytes: &[u8], area: &[u8], e: Event, j: u32) -> NodeReport
+pub fn node_report(words: &[u32], bytes: &[u8], area: &[u8], e: Event, j: u32) -> Option<Ground>
     ensures { result ≡ node_report_in (store words.now bytes.now) area.now e j }
 {
     if !reports(words, bytes, area, e) {
-        return no_report();
+        return None;
     }
     tell(words, bytes, j)
 }
@@ -66,40 +49,26 @@ fn tell_all(words: &[u32], bytes: &[u8]) -> Report
     requires { too_short (store words.now bytes.now) ≡ false }
     ensures { result ≡ report_of true (site_in (store words.now bytes.now)).members }
 {
-    let none = no_report();
-    let mut nodes = [none; 32];
-    for i in 0..32usize {
-        nodes[i] = tell(words, bytes, i as u32 + 1);
+    Report {
+        nodes: std::array::from_fn(|i| tell(words, bytes, i as u32 + 1)),
     }
-    Report { nodes }
 }
 
 // Of the two bytes of a node the one at k: the rule's number, or the lowest missing node.
-fn report_byte(t: NodeReport, k: usize) -> u8
+fn report_byte(t: Option<Ground>, k: usize) -> u8
     ensures { result ≡ report_byte t k }
 {
-    let g = t.grounds;
-    if k != 0 {
-        return g.missing;
-    }
-    if t.live {
-        let rule = g.rule;
-        return node::rule_number(rule);
-    }
-    0
+    let Some(g) = t else {
+        return 0;
+    };
+    if k == 0 { u8::from(g.rule) } else { g.missing }
 }
 
 // A report in bytes.
 fn report_bytes(r: Report) -> [u8; 64]
     ensures { result ≡ report_bytes r }
 {
-    let nodes = r.nodes;
-    let mut l = [0u8; 64];
-    for k in 0..64usize {
-        let t = nodes[k / 2];
-        l[k] = report_byte(t, k % 2);
-    }
-    l
+    std::array::from_fn(|k| report_byte(r.nodes[k / 2], k % 2))
 }
 
 // The report of an event, were it the next one, to the start of an output that has room for it. An event that is no accepted close writes

@@ -5,24 +5,22 @@ ghost use Rattle.wire.specs.Reads.{part_of};
 ghost use Rattle.site.specs.declared.Event.TheVariants.{Send};
 ghost use Rattle.machine.specs.steps.After.{storage_answer, store_after, site_with, area_with, part_answer, part_store, area_into};
 
-use crate::{BYTES, WORDS};
-use node::Answer;
+use crate::layout::Lent;
+use crate::read::is_short;
+use node::{Answer, Refusal};
 use site::{Event, SiteHeader};
 
 // The answer that a step would give; nothing is written. Refused as 15 where words, bytes or area are too few.
 pub fn answer_to(words: &[u32], bytes: &[u8], area: &[u8], e: Event) -> Answer
     ensures { result ≡ storage_answer (store words.now bytes.now) area.now e }
 {
-    if words.len() < WORDS {
-        return Answer::NoRoom;
-    }
-    if bytes.len() < BYTES {
-        return Answer::NoRoom;
+    if is_short(words, bytes) {
+        return Err(Refusal::NoRoom);
     }
     if area.len() < SiteHeader::AREA {
-        return Answer::NoRoom;
+        return Err(Refusal::NoRoom);
     }
-    crate::answers::answer(words, bytes, area, e)
+    crate::answers::answer(Lent { words, bytes }, area, e)
 }
 
 // One event: the answer.
@@ -34,12 +32,9 @@ pub fn step(words: &mut [u32], bytes: &mut [u8], area: &mut [u8], e: Event) -> A
         ≡ site_with (store words.old bytes.old) area.old e }
     ensures area_after { area.new ≡ area_with (store words.old bytes.old) area.old e }
 {
-    let a = answer_to(words, bytes, area, e);
-    if !node::is_done(a) {
-        return a;
-    }
+    answer_to(words, bytes, area, e)?;
     crate::events::apply(words, bytes, area, e);
-    a
+    Ok(())
 }
 
 // A send of node j whose packet goes into the part of an index: the answer.
@@ -49,22 +44,19 @@ pub fn send_into(words: &[u32], bytes: &mut [u8], area: &mut [u8], at: u32, j: u
         ≡ (store_after (store words.now bytes.old) area.old (Send j)).bytes }
     ensures area_after { area.new ≡ area_into (store words.now bytes.old) area.old at j }
 {
-    let answer = answer_to(words, bytes, area, Event::Send(j));
-    if !node::is_done(answer) {
-        return answer;
-    }
+    answer_to(words, bytes, area, Event::Send(j))?;
     crate::events::send_into(words, bytes, area, at, j);
-    answer
+    Ok(())
 }
 
 // The answer that a hear of node j of packet p would get, which lies in the part of an index; nothing is written.
 pub fn answer_from(words: &[u32], bytes: &[u8], area: &[u8], at: u32, j: u32, p: u32) -> Answer
     ensures { result ≡ part_answer (store words.now bytes.now) (part_of area.now at) j p }
 {
-    if (words.len() < WORDS) | (bytes.len() < BYTES) {
-        return Answer::NoRoom;
+    if is_short(words, bytes) {
+        return Err(Refusal::NoRoom);
     }
-    crate::answers::heard_answer(words, bytes, area, at, j, p)
+    crate::answers::heard_answer(Lent { words, bytes }, area, at, j, p)
 }
 
 // Such a hear: the answer.
@@ -82,10 +74,7 @@ pub fn hear_from(
     ensures bytes_after { bytes.new
         ≡ (part_store (store words.old bytes.old) (part_of area.now at) j p).bytes }
 {
-    let answer = answer_from(words, bytes, area, at, j, p);
-    if !node::is_done(answer) {
-        return answer;
-    }
+    answer_from(words, bytes, area, at, j, p)?;
     crate::events::hear_from(words, bytes, area, at, j, p);
-    answer
+    Ok(())
 }

@@ -2,26 +2,26 @@
 // end.
 ghost use Rattle.std.specs.Prelude.{◌≡◌, true, ◌≤◌, ◌<◌, length};
 ghost use Rattle.windows.specs.Windows.{list_ok};
-ghost use Rattle.windows.specs.Copies.{windows_in};
 ghost use Rattle.site.specs.Members.{header_of};
 ghost use Rattle.node.specs.Figures.{is_last};
 ghost use Rattle.site.specs.declared.Event.TheVariants.{End};
 ghost use Rattle.machine.specs.Layout.{store, site_in, words_size, bytes_size};
 ghost use Rattle.machine.specs.steps.After.{area_with};
 ghost use Rattle.machine.specs.timed.Timed.{given_table};
-ghost use Rattle.machine.specs.timed.Stored.{stored_load, timed_loaded_store, timed_loaded_site, given_store, day_answer};
+ghost use Rattle.machine.specs.timed.Stored.{stored_load, timed_loaded_store, timed_loaded_site, given_store, stored_answer, stored_day};
 ghost use Rattle.machine.specs.timed.Stored.{begun_store};
-ghost use Rattle.machine.specs.timed.Stored.{timed_store, timed_site, day_answer_by, store_by};
+ghost use Rattle.machine.specs.timed.Stored.{timed_store, timed_site, answered_by, day_by, store_by};
 ghost use Rattle.machine.specs.timed.Inner.{row_given, demand_given, day_begun, list_verdict};
 
+use crate::Day;
 use crate::acts::want_at;
-use crate::layout::{BYTES, WORDS};
-use crate::read::is_up;
-use crate::{Day, DayAnswer};
-use node::{Answer, Config};
+use crate::read::{is_short, is_up};
+use node::{Answer, Config, Refusal};
 use site::{Event, Row, SiteHeader, Table};
+use windows::Window;
 
 // What stands for the demand of a node without windows. No demand is as large, so such a node keeps its own.
+// Kept: `windows::due_all` gives a number for each node, and its clause says so.
 const NO_DEMAND: u32 = 16;
 
 // A row with a demand, or with its own where that is none.
@@ -39,18 +39,14 @@ fn given_row(row: Row, d: u32) -> Row
 }
 
 // A table with the demands of the first epoch.
-fn given_table(w: &[u32], nodes: u32, day: u32, t: Table) -> Table
-    requires { list_ok nodes day (windows_in w.now) ≡ true }
-    ensures { result ≡ given_table (windows_in w.now) t }
+fn given_table(w: &[Window], nodes: u32, day: u32, t: Table) -> Table
+    requires { list_ok nodes day w.now ≡ true }
+    ensures { result ≡ given_table w.now t }
 {
     let demands = windows::due_all(w, 0, NO_DEMAND);
-    let list = t.rows;
-    let mut rows = list;
-    for i in 0..32usize {
-        let row = list[i];
-        rows[i] = given_row(row, demands[i]);
+    Table {
+        rows: std::array::from_fn(|i| given_row(t.rows[i], demands[i])),
     }
-    Table { rows }
 }
 
 // A site from its settings and table, with a day of `length` epochs. Refused as 15 where words or bytes are too few. A refusal writes
@@ -61,38 +57,29 @@ pub fn load(
     f: Config,
     t: Table,
     length: u32,
-    w: &[u32],
-) -> DayAnswer
-    ensures value { result ≡ stored_load (store words.old bytes.old) f t length (windows_in w.now) }
+    w: &[Window],
+) -> Result<Day, Refusal>
+    ensures value { result ≡ stored_load (store words.old bytes.old) f t length w.now }
     ensures words_after { words.new
-        ≡ (timed_loaded_store (store words.old bytes.old) f t length (windows_in w.now)).words }
+        ≡ (timed_loaded_store (store words.old bytes.old) f t length w.now).words }
     ensures bytes_after { bytes.new
-        ≡ (timed_loaded_store (store words.old bytes.old) f t length (windows_in w.now)).bytes }
+        ≡ (timed_loaded_store (store words.old bytes.old) f t length w.now).bytes }
     ensures bytes_after_2 { site_in (store words.new bytes.new)
-        ≡ timed_loaded_site (store words.old bytes.old) f t length (windows_in w.now) }
+        ≡ timed_loaded_site (store words.old bytes.old) f t length w.now }
 {
-    let day = Day { length, epoch: 0 };
-    if (words.len() < crate::layout::WORDS) | (bytes.len() < crate::layout::BYTES) {
-        return DayAnswer {
-            answer: Answer::NoRoom,
-            day,
-        };
+    if is_short(words, bytes) {
+        return Err(Refusal::NoRoom);
     }
-    let plain = site::load_answer(f, t);
-    if !node::is_done(plain) {
-        return DayAnswer { answer: plain, day };
-    }
+    site::load_answer(f, t)?;
     if !windows::list_ok(w, f.nodes, length) {
-        return DayAnswer {
-            answer: Answer::BadWindows,
-            day,
-        };
+        return Err(Refusal::BadWindows);
     }
-    let answer = crate::load::begin_site(words, bytes, f, given_table(w, f.nodes, length, t));
-    DayAnswer { answer, day }
+    crate::load::begin_site(words, bytes, f, given_table(w, f.nodes, length, t))?;
+    Ok(Day { length, epoch: 0 })
 }
 
 // A demand for the node at an index, if the node is up. A number that is no demand is given to none.
+// Kept: lengths in `requires`: of the two lists one alone is lent to be written, which is a third struct beside `Lent`.
 fn give_one(words: &[u32], bytes: &mut [u8], i: usize, d: u32)
     requires { (i < 32) × (words_size ≤ length words.now) × (bytes_size ≤ length bytes.old) }
     ensures { bytes.new ≡ demand_given bytes.old i d }
@@ -106,17 +93,17 @@ fn give_one(words: &[u32], bytes: &mut [u8], i: usize, d: u32)
 
 // The demands of an epoch, given to the N nodes; an empty list gives none. The list is gone over once, and of a node that is up and has
 // windows one byte is written. A node without windows keeps its demand, which needs no reading: it is given what is no demand.
-fn give(words: &[u32], bytes: &mut [u8], area: &[u8], w: &[u32], epoch: u32, nodes: u32)
+fn give(words: &[u32], bytes: &mut [u8], area: &[u8], w: &[Window], epoch: u32, nodes: u32)
     requires { nodes ≡ (site_in (store words.now bytes.old)).config.nodes }
     ensures words_value { words.now
-        ≡ (given_store (windows_in w.now) epoch area.now (store words.now bytes.old)).words }
+        ≡ (given_store w.now epoch area.now (store words.now bytes.old)).words }
     ensures bytes_after { bytes.new
-        ≡ (given_store (windows_in w.now) epoch area.now (store words.now bytes.old)).bytes }
+        ≡ (given_store w.now epoch area.now (store words.now bytes.old)).bytes }
 {
-    if windows::is_empty(w) {
+    if w.is_empty() {
         return;
     }
-    if (words.len() < WORDS) | (bytes.len() < BYTES) {
+    if is_short(words, bytes) {
         return;
     }
     if area.len() < SiteHeader::AREA {
@@ -124,8 +111,8 @@ fn give(words: &[u32], bytes: &mut [u8], area: &[u8], w: &[u32], epoch: u32, nod
     }
     let demands = windows::due_all(w, epoch, NO_DEMAND);
     let n = crate::places(nodes) as usize;
-    for i in 0..n {
-        give_one(words, bytes, i, demands[i]);
+    for (i, d) in demands[..n].iter().enumerate() {
+        give_one(words, bytes, i, *d);
     }
 }
 
@@ -138,13 +125,13 @@ fn in_last_round(k: SiteHeader) -> bool
 }
 
 // Where the next epoch begins with an end, its demands are given, and its day begins.
-fn begin(words: &[u32], bytes: &mut [u8], area: &[u8], k: SiteHeader, day: Day, w: &[u32]) -> Day
+fn begin(words: &[u32], bytes: &mut [u8], area: &[u8], k: SiteHeader, day: Day, w: &[Window]) -> Day
     requires { k ≡ header_of (site_in (store words.now bytes.old)) }
     ensures value { result ≡ day_begun (site_in (store words.now bytes.old)) day }
     ensures words_value { words.now
-        ≡ (begun_store (store words.now bytes.old) day area.now (windows_in w.now) End).words }
+        ≡ (begun_store (store words.now bytes.old) day area.now w.now End).words }
     ensures bytes_after { bytes.new
-        ≡ (begun_store (store words.now bytes.old) day area.now (windows_in w.now) End).bytes }
+        ≡ (begun_store (store words.now bytes.old) day area.now w.now End).bytes }
 {
     if !in_last_round(k) {
         return day;
@@ -160,34 +147,27 @@ fn end(
     words: &mut [u32],
     bytes: &mut [u8],
     area: &mut [u8],
-    day: Day,
-    w: &[u32],
+    day: &mut Day,
+    w: &[Window],
     ok: bool,
-) -> DayAnswer
-    ensures value { result ≡ day_answer_by ok (store words.old bytes.old) day area.old End }
+) -> Answer
+    ensures value { result ≡ answered_by ok (store words.old bytes.old) area.old End }
+    ensures day_after { day.new ≡ day_by ok (store words.old bytes.old) day.old area.old End }
     ensures words_after { words.new
-        ≡ (store_by ok (store words.old bytes.old) day area.old (windows_in w.now) End).words }
+        ≡ (store_by ok (store words.old bytes.old) day.old area.old w.now End).words }
     ensures bytes_after { bytes.new
-        ≡ (store_by ok (store words.old bytes.old) day area.old (windows_in w.now) End).bytes }
+        ≡ (store_by ok (store words.old bytes.old) day.old area.old w.now End).bytes }
     ensures area_after { area.new ≡ area_with (store words.old bytes.old) area.old End }
 {
-    let plain = crate::steps::answer_to(words, bytes, area, Event::End);
-    if !node::is_done(plain) {
-        return DayAnswer { answer: plain, day };
-    }
+    crate::steps::answer_to(words, bytes, area, Event::End)?;
     if !ok {
-        return DayAnswer {
-            answer: Answer::BadWindows,
-            day,
-        };
+        return Err(Refusal::BadWindows);
     }
     let k = crate::look::header(words, bytes);
-    let next = begin(words, bytes, area, k, day, w);
-    crate::steps::step(words, bytes, area, Event::End);
-    DayAnswer {
-        answer: Answer::Done,
-        day: next,
-    }
+    *day = begin(words, bytes, area, k, *day, w);
+    // The demands change nothing of what the end was answered.
+    let _ = crate::steps::step(words, bytes, area, Event::End);
+    Ok(())
 }
 
 // One event whose list was tested before: `ok` is what it was found to be. Only an end looks at it.
@@ -195,28 +175,28 @@ pub fn step_tested(
     words: &mut [u32],
     bytes: &mut [u8],
     area: &mut [u8],
-    day: Day,
+    day: &mut Day,
     e: Event,
-    w: &[u32],
+    w: &[Window],
     ok: bool,
-) -> DayAnswer
-    ensures value { result ≡ day_answer_by ok (store words.old bytes.old) day area.old e }
+) -> Answer
+    ensures value { result ≡ answered_by ok (store words.old bytes.old) area.old e }
+    ensures day_after { day.new ≡ day_by ok (store words.old bytes.old) day.old area.old e }
     ensures words_after { words.new
-        ≡ (store_by ok (store words.old bytes.old) day area.old (windows_in w.now) e).words }
+        ≡ (store_by ok (store words.old bytes.old) day.old area.old w.now e).words }
     ensures bytes_after { bytes.new
-        ≡ (store_by ok (store words.old bytes.old) day area.old (windows_in w.now) e).bytes }
+        ≡ (store_by ok (store words.old bytes.old) day.old area.old w.now e).bytes }
     ensures area_after { area.new ≡ area_with (store words.old bytes.old) area.old e }
 {
     if site::is_end(e) {
         return end(words, bytes, area, day, w, ok);
     }
-    let answer = crate::steps::step(words, bytes, area, e);
-    DayAnswer { answer, day }
+    crate::steps::step(words, bytes, area, e)
 }
 
 // What an event's list is found to be.
-fn tested(words: &[u32], bytes: &[u8], day: Day, e: Event, w: &[u32]) -> bool
-    ensures { result ≡ list_verdict (store words.now bytes.now) day (windows_in w.now) e }
+fn tested(words: &[u32], bytes: &[u8], day: Day, e: Event, w: &[Window]) -> bool
+    ensures { result ≡ list_verdict (store words.now bytes.now) day w.now e }
 {
     if !site::is_end(e) {
         return true;
@@ -226,26 +206,26 @@ fn tested(words: &[u32], bytes: &[u8], day: Day, e: Event, w: &[u32]) -> bool
     windows::list_ok(w, f.nodes, day.length)
 }
 
-// One event: the answer, and the day after it. Refused as 15 where words, bytes or area are too few. A refusal changes nothing. Only an end
-// looks at the list.
+// One event, and the day after it. Refused as 15 where words, bytes or area are too few. A refusal changes nothing.
+// Only an end looks at the list.
 pub fn step(
     words: &mut [u32],
     bytes: &mut [u8],
     area: &mut [u8],
-    day: Day,
+    day: &mut Day,
     e: Event,
-    w: &[u32],
-) -> DayAnswer
-    ensures value { result ≡ day_answer (store words.old bytes.old) day area.old
-        (windows_in w.now) e }
+    w: &[Window],
+) -> Answer
+    ensures value { result ≡ stored_answer (store words.old bytes.old) day.old area.old w.now e }
+    ensures day_after { day.new ≡ stored_day (store words.old bytes.old) day.old area.old w.now e }
     ensures words_after { words.new
-        ≡ (timed_store (store words.old bytes.old) day area.old (windows_in w.now) e).words }
+        ≡ (timed_store (store words.old bytes.old) day.old area.old w.now e).words }
     ensures bytes_after { bytes.new
-        ≡ (timed_store (store words.old bytes.old) day area.old (windows_in w.now) e).bytes }
+        ≡ (timed_store (store words.old bytes.old) day.old area.old w.now e).bytes }
     ensures bytes_after_2 { site_in (store words.new bytes.new)
-        ≡ timed_site (store words.old bytes.old) day area.old (windows_in w.now) e }
+        ≡ timed_site (store words.old bytes.old) day.old area.old w.now e }
     ensures area_after { area.new ≡ area_with (store words.old bytes.old) area.old e }
 {
-    let ok = tested(words, bytes, day, e, w);
+    let ok = tested(words, bytes, *day, e, w);
     step_tested(words, bytes, area, day, e, w, ok)
 }

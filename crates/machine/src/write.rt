@@ -1,5 +1,6 @@
 // Numbers written to the storage of a site.
 ghost use Rattle.std.specs.Prelude.{◌≡◌, true, ◌+◌, ◌≤◌, ◌<◌, length, set};
+ghost use mir.Val.{bool_byte};
 ghost use Rattle.lists.specs.Bytes.{written};
 ghost use Rattle.membership.specs.requests.Requests.{only};
 ghost use Rattle.node.specs.Core.{bare};
@@ -11,66 +12,24 @@ ghost use Rattle.machine.specs.Written.{written_front, written_free, phased};
 use crate::layout::{COUNTERS, KNOWN, NODE_BYTES, NODE_WORDS, PHASE, SCHEDULE, SENT};
 use node::{Core, Move};
 
-// 6 words at a place.
-pub(crate) fn put_six(out: &mut [u32], at: usize, l: [u32; 6])
-    requires { at + 6 ≤ length out.old }
-    ensures { out.new ≡ written out.old at l }
-{
-    for i in 0..6usize {
-        out[at + i] = l[i];
-    }
-}
-
-// 8 words at a place.
-fn put_eight(out: &mut [u32], at: usize, l: [u32; 8])
-    requires { at + 8 ≤ length out.old }
-    ensures { out.new ≡ written out.old at l }
-{
-    for i in 0..8usize {
-        out[at + i] = l[i];
-    }
-}
-
-// 5 bytes at a place.
-fn put_small(out: &mut [u8], at: usize, l: [u8; 5])
-    requires { at + 5 ≤ length out.old }
-    ensures { out.new ≡ written out.old at l }
-{
-    for i in 0..5usize {
-        out[at + i] = l[i];
-    }
-}
-
-// 32 bytes at a place.
-pub(crate) fn put_short(out: &mut [u8], at: usize, l: [u8; 32])
-    requires { at + 32 ≤ length out.old }
-    ensures { out.new ≡ written out.old at l }
-{
-    for i in 0..32usize {
-        out[at + i] = l[i];
-    }
-}
-
 // A core's words; its setup has none.
+// Kept: lengths in `requires`. A struct of both lists was tried: a clause for each reference's name, and for the list not written.
 pub(crate) fn put_row(words: &mut [u32], i: usize, c: Core)
     requires { (i < 32) × (words_size ≤ length words.old) }
     ensures { words.new ≡ written words.old (node_words_at i) (node_words (bare c)) }
 {
     let r = c.round;
-    put_eight(
-        words,
-        NODE_WORDS * i,
-        [
-            c.version,
-            c.flags,
-            r.merged,
-            r.lowest,
-            r.highest,
-            r.heard,
-            c.interactions,
-            c.place,
-        ],
-    );
+    let row = NODE_WORDS * i;
+    words[row..row + 8].copy_from_slice(&[
+        c.version,
+        c.flags,
+        r.merged,
+        r.lowest,
+        r.highest,
+        r.heard,
+        c.interactions,
+        c.place,
+    ]);
 }
 
 // A core's bytes, and whether its node is up.
@@ -90,9 +49,9 @@ pub(crate) fn put_front(bytes: &mut [u8], i: usize, up: bool, c: Core)
         c.updated as u8,
     ];
     let room = NODE_BYTES * i;
-    put_small(bytes, room, small);
-    put_short(bytes, room + KNOWN, known);
-    put_short(bytes, room + COUNTERS, counters);
+    bytes[room..room + 5].copy_from_slice(&small);
+    bytes[room + KNOWN..room + KNOWN + 32].copy_from_slice(&known);
+    bytes[room + COUNTERS..room + COUNTERS + 32].copy_from_slice(&counters);
 }
 
 // Another demand of the node at an index: one byte.
@@ -121,11 +80,12 @@ fn put_own(out: &mut [u8], at: usize, i: usize, request: u8)
     requires { (i < 32) × (at + 32 ≤ length out.old) }
     ensures { out.new ≡ written out.old at (only (i + 1) request) }
 {
-    put_short(out, at, membership::requests::no_requests());
+    out[at..at + 32].copy_from_slice(&membership::requests::no_requests());
     out[at + i] = request;
 }
 
 // As `put_front`, of a core whose round has just opened, where its node is up.
+// Kept: the two differ in how the requests are written, and one function for both would take that part as a closure.
 fn put_opened_front(bytes: &mut [u8], i: usize, c: Core)
     requires { (i < 32) × (bytes_size ≤ length bytes.old) × (c.round.known ≡ only (i + 1) c.request) }
     ensures { bytes.new ≡ written bytes.old (node_bytes_at i) (stored_front (member_of true (bare c))) }
@@ -140,9 +100,9 @@ fn put_opened_front(bytes: &mut [u8], i: usize, c: Core)
         c.updated as u8,
     ];
     let room = NODE_BYTES * i;
-    put_small(bytes, room, small);
+    bytes[room..room + 5].copy_from_slice(&small);
     put_own(bytes, room + KNOWN, i, c.request);
-    put_short(bytes, room + COUNTERS, counters);
+    bytes[room + COUNTERS..room + COUNTERS + 32].copy_from_slice(&counters);
 }
 
 // As `put_core`, of such a core.
@@ -181,10 +141,10 @@ pub(crate) fn put_free(words: &mut [u32], bytes: &mut [u8], i: usize, up: bool, 
 }
 
 // Another phase: no packets, and 1 in negotiation.
-pub(crate) fn put_phase(bytes: &mut [u8], phase: u8)
+pub(crate) fn put_phase(bytes: &mut [u8], negotiates: bool)
     requires { bytes_size ≤ length bytes.old }
-    ensures { bytes.new ≡ phased bytes.old phase }
+    ensures { bytes.new ≡ phased bytes.old (bool_byte negotiates) }
 {
-    put_short(bytes, SENT, [0u8; 32]);
-    bytes[PHASE] = phase;
+    bytes[SENT..SENT + 32].copy_from_slice(&[0; 32]);
+    bytes[PHASE] = negotiates as u8;
 }

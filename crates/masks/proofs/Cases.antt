@@ -1,7 +1,6 @@
 -- A worked case: node 1 owns slots 1 and 3, node 2 slot 2, and node 32 slots 64, 65 and 80.
 -- Assumes nothing.
 use mathlib.Core.Path.{◌≡◌, refl}
-use mathlib.Core.Bool.{true, false}
 use mathlib.Core.List.{List, [], ◌∷◌, ◌++◌}
 use Prim.Native.Nat.{ℕ, ◌+◌, ◌^◌}
 use lib.ListN.{replicate}

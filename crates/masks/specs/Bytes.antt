@@ -1,7 +1,7 @@
 -- Masks as 352 bytes: the first words of nodes 1 to 32, 8 bytes each, then their second words, 2 bytes each, then how many slots each has,
 -- a byte each.
 -- Assumes nothing.
-use Rattle.std.specs.Prelude.{Bool, false, cond, ◌&&◌, ◌||◌, List, [], ◌∷◌, ◌++◌, ℕ, zero, suc, ◌+◌, ◌-◌, ◌*◌, ◌/◌, ◌%◌, eqb, ltb, leb, length, get_or, replicate}
+use Rattle.std.specs.Prelude.{Bool, cond, ◌&&◌, ◌||◌, List, [], ◌∷◌, ◌++◌, ℕ, zero, suc, ◌+◌, ◌-◌, ◌*◌, ◌/◌, ◌%◌, eqb, ltb, leb, length, get_or, replicate}
 use Rattle.lists.specs.All.{all_below, tab, bounded}
 use Rattle.lists.specs.Bytes.{word32, bytes32, window, span, written}
 use Rattle.masks.specs.Slots.{from_words, low_of, high_of, count_of, owners_in, well_formed}

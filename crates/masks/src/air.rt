@@ -1,10 +1,10 @@
 // Owners that lie in bytes: written there from masks, and read from there into masks. No list of owners is a value.
-ghost use Rattle.std.specs.Prelude.{◌≡◌, min, ◌+◌, ◌≤◌, ◌<◌, length, get_or, replicate};
+ghost use Rattle.std.specs.Prelude.{◌≡◌, ◌+◌, ◌≤◌, ◌<◌, length, get_or, replicate};
 ghost use Rattle.masks.specs.Air.{owners_to, owners_written, with_owners};
 ghost use Rattle.masks.specs.Bytes.{masks_size, masks_in, at_held};
 ghost use Rattle.masks.specs.Inner.{index_of, marked, granted};
 
-use crate::bytes::{has_room, long_bytes, long_word, nodes_to, short_bytes, short_word};
+use crate::bytes::{NODES, has_room, long_bytes, long_word, short_bytes, short_word};
 use crate::inplace::clear;
 use crate::{give, node_index};
 
@@ -16,9 +16,7 @@ fn wipe_owners(owners: &mut [u8])
     requires { length owners.old ≡ 80 }
     ensures { owners.new ≡ replicate 80 0 }
 {
-    for k in 0..OWNERS {
-        owners[k] = 0;
-    }
+    owners.fill(0);
 }
 
 // The owners by the masks of the first nodes.
@@ -27,6 +25,7 @@ fn tell_rows(s: &[u8], at: usize, top: usize, owners: &mut [u8])
     ensures { owners.new ≡ owners_to (masks_in s.now at) top }
 {
     wipe_owners(owners);
+    // Kept: a node has its words at two places of the bytes, which follow from its number: no list is walked.
     for i in 0..top {
         let a = long_word(s, at + 8 * i);
         let b = short_word(s, at + 256 + 2 * i);
@@ -49,7 +48,7 @@ pub fn tell(s: &[u8], at: usize, n: u32, out: &mut [u8], to: usize)
         return;
     }
     let e = to + OWNERS;
-    tell_rows(s, at, nodes_to(n as usize), &mut out[to..e]);
+    tell_rows(s, at, (n as usize).min(NODES), &mut out[to..e]);
 }
 
 // The bit of slot k in the words of node i.
@@ -83,13 +82,6 @@ fn grant(out: &mut [u8], at: usize, j: u8, k: usize)
     out[c] = held + 1;
 }
 
-// How many of n owners have a slot.
-fn slots_to(n: usize) -> usize
-    ensures { result ≡ min n 80 }
-{
-    if n < OWNERS { n } else { OWNERS }
-}
-
 // The masks of owners at a place, if there is room for them there: the owners' slots one by one, over masks that are all free.
 pub fn hold(out: &mut [u8], at: usize, owners: &[u8])
     ensures { out.new ≡ with_owners out.old at owners.now }
@@ -98,8 +90,8 @@ pub fn hold(out: &mut [u8], at: usize, owners: &[u8])
         return;
     }
     clear(out, at);
-    let top = slots_to(owners.len());
-    for k in 0..top {
-        grant(out, at, owners[k], k);
+    let first = &owners[..owners.len().min(OWNERS)];
+    for (k, &j) in first.iter().enumerate() {
+        grant(out, at, j, k);
     }
 }

@@ -1,8 +1,8 @@
 // Masks as bytes: their words and their counts.
-ghost use Rattle.std.specs.Prelude.{◌≡◌, min, ◌+◌, ◌*◌, ◌≤◌, length, get_or, replicate};
+ghost use Rattle.std.specs.Prelude.{◌≡◌, ◌+◌, ◌≤◌, length, get_or, replicate};
 ghost use Rattle.std.specs.Int.Count;
 ghost use Rattle.lists.specs.All.{bounded};
-ghost use Rattle.lists.specs.Bytes.{span, written, Tried};
+ghost use Rattle.lists.specs.Bytes.{span, window, written, Tried};
 ghost use Rattle.masks.specs.Slots.{from_words};
 ghost use Rattle.masks.specs.Bytes.{word64, bytes64, word16, bytes16, rows, masks_bytes, has_room, no_own, own_read};
 ghost use Rattle.masks.specs.Bytes.{low_at, high_at, first_words};
@@ -12,22 +12,25 @@ use crate::NodeSlots;
 // The bytes of masks.
 pub const MASKS: usize = 352;
 
+// N bytes at a place.
+pub(crate) fn part<const N: usize>(s: &[u8], at: usize) -> [u8; N]
+    requires { at + N ≤ length s.now }
+    ensures { result ≡ window N s.now at }
+{
+    // Kept: byte by byte, which is one move: `first_chunk` tests the length where it runs, and `fit` took 105 ns with it and 67 without.
+    let mut l = [0u8; N];
+    for (i, x) in l.iter_mut().enumerate() {
+        *x = s[at + i];
+    }
+    l
+}
+
 // The number in the eight bytes at a place.
 pub(crate) fn long_word(s: &[u8], i: usize) -> u64
     requires { i + 8 ≤ length s.now }
     ensures { result ≡ word64 s.now i }
 {
-    let k = i + 4;
-    let a = lists::join(s[i], s[i + 1], s[i + 2], s[i + 3]);
-    let b = lists::join(s[k], s[k + 1], s[k + 2], s[k + 3]);
-    (a as u64) * 4294967296 + (b as u64)
-}
-
-// The number of two bytes, highest first.
-fn pair(a: u8, b: u8) -> u16
-    ensures { result ≡ a * 256 + b }
-{
-    (a as u16) * 256 + (b as u16)
+    u64::from_be_bytes(part(s, i))
 }
 
 // The number in the two bytes at a place.
@@ -35,13 +38,7 @@ pub(crate) fn short_word(s: &[u8], i: usize) -> u16
     requires { i + 2 ≤ length s.now }
     ensures { result ≡ word16 s.now i }
 {
-    pair(s[i], s[i + 1])
-}
-
-pub(crate) fn wide(x: u8) -> u32
-    ensures { result ≡ x }
-{
-    x as u32
+    u16::from_be_bytes(part(s, i))
 }
 
 // How many slots two words have. Most nodes of a small site have none.
@@ -90,6 +87,7 @@ pub fn low_at(s: &[u8], at: usize, i: usize) -> u64
 }
 
 // Its second word.
+// Kept: beside `low_at`: word, place and type of the result differ, and what is the same is two tests.
 pub fn high_at(s: &[u8], at: usize, i: usize) -> u16
     ensures { result ≡ high_at s.now at i }
 {
@@ -135,27 +133,21 @@ pub fn own(s: &[u8], at: u32, j: u32) -> NodeSlots
     }
 }
 
-// How many of n nodes have masks.
-pub(crate) fn nodes_to(n: usize) -> usize
-    ensures { result ≡ min n 32 }
-{
-    if n < 32 { n } else { 32 }
-}
+// How many nodes have masks.
+pub(crate) const NODES: usize = 32;
 
 // A number's eight bytes.
 pub(crate) fn long_bytes(x: u64) -> [u8; 8]
     ensures { result ≡ bytes64 x }
 {
-    let a = lists::word_bytes((x / 4294967296) as u32);
-    let b = lists::word_bytes((x % 4294967296) as u32);
-    [a[0], a[1], a[2], a[3], b[0], b[1], b[2], b[3]]
+    x.to_be_bytes()
 }
 
 // A number's two bytes.
 pub(crate) fn short_bytes(x: u16) -> [u8; 2]
     ensures { result ≡ bytes16 x }
 {
-    [(x / 256 % 256) as u8, (x % 256) as u8]
+    x.to_be_bytes()
 }
 
 // Zeros over n bytes at a place. For a small n that the caller knows these are a few stores; for any other, a call of the C library.
@@ -163,9 +155,7 @@ pub(crate) fn zeros(s: &mut [u8], from: usize, n: usize)
     requires { from + n ≤ length s.old }
     ensures { s.new ≡ written s.old from (replicate n 0) }
 {
-    for i in 0..n {
-        s[from + i] = 0;
-    }
+    s[from..from + n].fill(0);
 }
 
 // The first words of the first n nodes at a place, and 0 for the others.
@@ -175,21 +165,25 @@ fn put_first(out: &mut [u8], at: usize, n: usize, low: &[u64; 32])
         ≡ written out.old at (rows 32 (λ i. bytes64 (get_or (first_words n low.now) i 0))) }
 {
     zeros(out, at, 256);
-    for i in 0..n {
-        let b = long_bytes(low[i]);
+    let first = &low[..n];
+    for (i, &x) in first.iter().enumerate() {
+        let b = long_bytes(x);
         lists::put_bytes(out, at + 8 * i, &b);
     }
 }
 
 // Their second words.
+// Kept: beside `put_first`, of which it differs in the width: one for both would take a row's bytes from a closure or a trait, with a
+// contract longer than this body.
 fn put_second(out: &mut [u8], at: usize, n: usize, high: &[u16; 32])
     requires { (n ≤ 32) × (at + 64 ≤ length out.old) }
     ensures { out.new
         ≡ written out.old at (rows 32 (λ i. bytes16 (get_or (first_words n high.now) i 0))) }
 {
     zeros(out, at, 64);
-    for i in 0..n {
-        let b = short_bytes(high[i]);
+    let first = &high[..n];
+    for (i, &x) in first.iter().enumerate() {
+        let b = short_bytes(x);
         lists::put_bytes(out, at + 2 * i, &b);
     }
 }
@@ -210,7 +204,7 @@ pub fn put_words(
     if !has_room(out, at) {
         return at;
     }
-    let top = nodes_to(n);
+    let top = n.min(NODES);
     put_first(out, at, top, low);
     put_second(out, at + 256, top, high);
     lists::put_bytes(out, at + 320, &counts)

@@ -1,11 +1,11 @@
 // Masks where they stand: tested, cleared and copied, with no owners made of them.
 ghost use Rattle.std.specs.Prelude.{◌≡◌, ◌+◌, ◌≤◌, length, replicate, ◌&&◌, eqb};
 ghost use Rattle.lists.specs.All.{bounded};
-ghost use Rattle.lists.specs.Bytes.{window, span, written};
+ghost use Rattle.lists.specs.Bytes.{span, written};
 ghost use Rattle.masks.specs.Inner.{ends_by, rows_fit};
 ghost use Rattle.masks.specs.Bytes.{masks_size, masks_in, rest_blank, rows_used, fit_read, cleared, copied};
 
-use crate::bytes::{MASKS, has_room, is_blank, long_word, nodes_to, ones, short_word, wide, zeros};
+use crate::bytes::{MASKS, NODES, has_room, is_blank, long_word, ones, part, short_word, zeros};
 
 // Half of them: longer runs of zeros would be stored by a call of the C library.
 const HALF: usize = 176;
@@ -30,11 +30,12 @@ fn rows_fit(s: &[u8], from: usize, top: usize, k: u32) -> bool
 {
     let mut taken_low: u64 = 0;
     let mut taken_high: u16 = 0;
+    // Kept: a node has its words and its count at three places of the bytes, which follow from its number: no list is walked.
     for i in 0..top {
         let a = long_word(s, from + 8 * i);
         let b = short_word(s, from + 256 + 2 * i);
         let n = ones(a, b);
-        let held = wide(s[from + 320 + i]);
+        let held = u32::from(s[from + 320 + i]);
         let apart = (taken_low & a == 0) & (taken_high & b == 0);
         let counted = held == n;
         if !(apart & counted) {
@@ -110,7 +111,7 @@ pub fn fit(s: &[u8], at: u32, k: u32, n: u32) -> bool
     if is_unused(s, from, k) {
         return true;
     }
-    let top = nodes_to(n as usize);
+    let top = (n as usize).min(NODES);
     if !rows_fit(s, from, top, k) {
         return false;
     }
@@ -139,18 +140,6 @@ pub fn clear(s: &mut [u8], at: usize)
     wipe(s, at + HALF);
 }
 
-// 32 bytes at a place.
-fn part(s: &[u8], at: usize) -> [u8; 32]
-    requires { at + 32 ≤ length s.now }
-    ensures { result ≡ window 32 s.now at }
-{
-    let mut l = [0u8; 32];
-    for i in 0..32usize {
-        l[i] = s[at + i];
-    }
-    l
-}
-
 // The masks at a place copied to another, if there is room at both and the second doesn't start within the first.
 // In parts of 32 bytes: one loop over all would be a call of the C library.
 pub fn copy(s: &mut [u8], from: usize, to: usize)
@@ -162,8 +151,9 @@ pub fn copy(s: &mut [u8], from: usize, to: usize)
     if (from < to) & (to < from + MASKS) {
         return;
     }
+    // Kept: the part is read from the slice that the loop writes, so that no iterator may hold it.
     for i in 0..11usize {
-        let l = part(s, from + 32 * i);
+        let l = part::<32>(s, from + 32 * i);
         lists::put_bytes(s, to + 32 * i, &l);
     }
 }

@@ -1,7 +1,7 @@
 // A schedule as masks of slots, one of each node, and how many slots each node has: in bytes, and no value of the code.
 #![tactic(auto)]
 
-ghost use Rattle.std.specs.Prelude.{◌≡◌, cond, ◌+◌, ◌-◌, ◌^◌, ◌≤◌, ◌<◌, length};
+ghost use Rattle.std.specs.Prelude.{◌≡◌, ◌+◌, ◌-◌, ◌^◌, ◌≤◌, ◌<◌, length};
 ghost use Rattle.masks.specs.Inner.{slots_given, index_of};
 
 mod air;
@@ -20,13 +20,6 @@ pub struct NodeSlots {
     pub count: u8,
 }
 
-// The first where the test holds, else the second.
-fn pick(t: bool, a: u8, b: u8) -> u8
-    ensures { result ≡ cond t a b }
-{
-    if t { a } else { b }
-}
-
 // Gives the number j to each slot of a word that has no owner yet; bit 0 of the word stands for the slot at `from`.
 // Goes from one bit that is set to the next.
 fn give(owners: &mut [u8], from: usize, w: u64, j: u8)
@@ -39,13 +32,15 @@ fn give(owners: &mut [u8], from: usize, w: u64, j: u8)
         let zeros = u64::trailing_zeros(rest);
         at = at + zeros as usize;
         let old = owners[at];
-        owners[at] = pick(old == 0, j, old);
+        let new = if old == 0 { j } else { old };
+        owners[at] = new;
         rest = (rest >> zeros) >> 1;
         at = at + 1;
     }
 }
 
 // Where the node of number j stands; from 32 up for a number that no node has.
+// Kept: a number above 32 has an index without a row too, so that a caller tests the index whatever stands here for 0.
 fn node_index(j: u8) -> usize
     ensures { result ≡ index_of j }
 {

@@ -3,6 +3,7 @@ ghost use Rattle.std.specs.Prelude.{◌≡◌};
 ghost use Rattle.membership.specs.majority.Majority.{least_count, majority, minority};
 
 // The least count that is more than half of n nodes, by n; off the sheet 33, which no set reaches.
+// Kept: a line for each entry of the printed sheet, against which it is read, and no formula.
 pub fn least_count(n: u32) -> u32
     ensures { result ≡ least_count n }
 {
@@ -48,7 +49,7 @@ pub fn least_count(n: u32) -> u32
 pub fn is_majority(n: u32, w: u32) -> bool
     ensures { result ≡ majority n w }
 {
-    (n <= 32) & (least_count(n) <= words::count(w))
+    n <= 32 && least_count(n) <= words::count(w)
 }
 
 // Whether it counts half of them or fewer.

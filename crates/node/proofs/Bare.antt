@@ -16,11 +16,11 @@ use Rattle.node.specs.Steps.{wanted_node}
 use Rattle.node.specs.Core.{core_of, bare, moved_by}
 use Rattle.node.specs.Answers.{is_done}
 use Rattle.node.specs.Figures.{negotiates}
-use Rattle.node.specs.declared.Answer.{Answer}
+use Rattle.node.specs.Answers.{Answer}
 use Rattle.node.specs.declared.Setup.{Setup}
 use Rattle.node.specs.Model.{Node}
 use Rattle.node.specs.declared.Packet.{Packet}
-use Rattle.node.specs.declared.Answer.TheVariants.{Done, WrongPhase, OwnPacket, TwoRequests}
+use Rattle.node.specs.Answers.{Done, WrongPhase, OwnPacket, TwoRequests}
 use Rattle.node.specs.declared.Move.TheVariants.{Keep}
 use Rattle.node.proofs.Answers.{test-met}
 

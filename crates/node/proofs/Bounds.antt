@@ -14,7 +14,7 @@ use Rattle.node.specs.Steps.{want_answer}
 use Rattle.node.specs.Answers.{is_done}
 use Rattle.node.specs.declared.Config.{Config}
 use Rattle.node.specs.declared.Setup.{Setup}
-use Rattle.node.specs.declared.Answer.TheVariants.{Done, OutOfRange, NoSuchNode}
+use Rattle.node.specs.Answers.{Done, OutOfRange, NoSuchNode}
 use Rattle.node.proofs.Answers.{test-met}
 
 -- good figures

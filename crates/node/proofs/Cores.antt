@@ -1,11 +1,12 @@
 -- A core's steps are the node's, and its moves make the node's schedules.
 -- Assumes nothing.
-use mathlib.Core.Path.{◌≡◌, refl}
+use mathlib.Core.Path.{◌≡◌, refl, ap, ◌∙◌}
 use mathlib.Core.Bool.{Bool, true, false, not, cond, ◌&&◌, ◌||◌}
 use mathlib.Core.List.{List}
 use Prim.Native.Nat.{ℕ, ◌+◌}
 use lib.Dec.{eqb, ltb}
 use lib.ListN.{replicate}
+use denote.Enum.Bare.{sameb}
 use borrow.Author.Tests.{eq-eqb}
 use Rattle.words.specs.Bits.{is_inside}
 use Rattle.words.proofs.Tests.{hit, skip}
@@ -15,7 +16,7 @@ use Rattle.allotment.specs.Allotment.{free}
 use Rattle.node.specs.Figures.{top_version, enough, successor, is_last, is_waiting, request_at}
 use Rattle.node.specs.Negotiation.{opened, merges, noted, joined, interacted, within, heard_node}
 use Rattle.node.specs.Begin.{begun}
-use Rattle.node.specs.Close.{complete, level, verdict, determines, repeats, updated_by, determined_by, counts_by, due, lapsed, raised}
+use Rattle.node.specs.Close.{complete, level, verdict, determining, repeating, determines, repeats, updated_by, determined_by, counts_by, due, lapsed, raised}
 use Rattle.node.specs.Close.{stayed, closed_node}
 use Rattle.node.specs.Distribution.{taken_epoch, taken_node}
 use Rattle.node.specs.End.{next_round, waits_on, next_epoch, rejoined, expires, ended_node}
@@ -30,6 +31,7 @@ use Rattle.node.specs.declared.CoreStep.{CoreStep}
 use Rattle.node.specs.declared.Packet.{Packet}
 use Rattle.node.specs.declared.Phase.TheVariants.{Negotiation, Distribution}
 use Rattle.node.specs.declared.Verdict.{Verdict}
+use Rattle.node.specs.contracts.Verdict.{the_type}
 use Rattle.node.specs.declared.Verdict.TheVariants.{Determines, Repeats, Silent}
 use Rattle.node.specs.declared.Rule.{Rule}
 use Rattle.node.specs.declared.Rule.TheVariants.{RequestMissing, NoMajority, OwnLower, Repeating, AtTop, NotDue, NewSent}
@@ -66,6 +68,24 @@ unfolding verdict complete counted_rule first_rule
 verdict-first n =
     chosen (is_inside n.round.merged (requesters n.round.known)) (enough n.setup.config n.round.merged) (level n)
     (ltb n.version top_version) (eqb n.version n.round.highest)
+
+-- a verdict compared with one of the three
+pub is-determines : (v : Verdict) → sameb the_type v Determines ≡ determining v
+is-determines Determines = refl
+is-determines Repeats = refl
+is-determines Silent = refl
+
+pub is-repeats : (v : Verdict) → sameb the_type v Repeats ≡ repeating v
+is-repeats Determines = refl
+is-repeats Repeats = refl
+is-repeats Silent = refl
+
+-- whether a new schedule is due, read off the first rule
+pub due-told : (n : Node) {first : Rule} {v : Verdict} {t d : Bool} → first ≡ first_rule n → v ≡ verdict_of first → t ≡ sameb the_type v Determines
+    → d ≡ (is_last n.setup.config n.epoch.place && (t || n.epoch.updated)) → d ≡ due n
+unfolding due
+due-told n {first} {v} e f g h = h ∙ ap (λ (t : Bool). is_last n.setup.config n.epoch.place && (t || n.epoch.updated))
+    (g ∙ is-determines v ∙ ap determining (f ∙ ap verdict_of e ∙ (verdict-first n).1))
 
 -- the rule of a close: a new schedule sent, then the mark of an earlier round, then the first rule
 pub rule-new : (n : Node) → due n ≡ true → rule_of n ≡ NewSent

@@ -1,9 +1,8 @@
 -- What each step of a node changes, and what it leaves as it was.
 -- Assumes nothing.
 use mathlib.Core.Path.{◌≡◌, refl, sym, ap, ◌∙◌, subst}
-use mathlib.Core.Bool.{Bool, true, false, not, cond, ◌&&◌, ◌||◌, and-true}
+use mathlib.Core.Bool.{Bool, true, false, not, cond, ◌&&◌, ◌||◌}
 use Prim.Native.Nat.{ℕ, min, max, ◌+◌, ◌<◌}
-use borrow.Author.Tests.{eq-eqb}
 use lib.Bits
 use lib.Dec.{eqb}
 use lib.ListN.{get_or}
@@ -22,8 +21,8 @@ use Rattle.node.specs.End.{next_round, waits_on, version_after, schedule_after, 
 use Rattle.membership.specs.counters.Counters.{members_of}
 use Rattle.node.specs.Steps.{close_outcome, end_outcome, wanted_node}
 use Rattle.node.specs.Answers.{is_done}
-use Rattle.node.specs.declared.Answer.{Answer}
-use Rattle.node.specs.declared.Answer.TheVariants.{Done, WrongPhase}
+use Rattle.node.specs.Answers.{Answer}
+use Rattle.node.specs.Answers.{Done, WrongPhase}
 use Rattle.node.specs.declared.Setup.{Setup}
 use Rattle.node.specs.declared.Round.{Round}
 use Rattle.node.specs.declared.Phase.{Phase}

@@ -9,7 +9,7 @@ use Rattle.node.specs.Answers.{is_done}
 use Rattle.node.specs.Model.{Node}
 use Rattle.node.specs.declared.Phase.{Phase}
 use Rattle.node.specs.declared.Phase.TheVariants.{Waiting, Negotiation, Distribution}
-use Rattle.node.specs.declared.Answer.TheVariants.{Done}
+use Rattle.node.specs.Answers.{Done}
 use Rattle.node.proofs.Bare.{take-phase}
 
 -- what holds of each phase with the values of its tests (waiting, in negotiation, sending) holds of every phase with its own

@@ -21,8 +21,8 @@ use Rattle.node.specs.Model.{Node}
 use Rattle.node.specs.declared.Packet.{Packet}
 use Rattle.node.specs.declared.Phase.{Phase}
 use Rattle.node.specs.declared.Phase.TheVariants.{Waiting, Negotiation, Distribution}
-use Rattle.node.specs.declared.Answer.{Answer}
-use Rattle.node.specs.declared.Answer.TheVariants.{Done, OutOfRange, NoSuchNode, WrongPhase, OwnPacket, WrongSender, TwoRequests}
+use Rattle.node.specs.Answers.{Answer}
+use Rattle.node.specs.Answers.{Done, OutOfRange, NoSuchNode, WrongPhase, OwnPacket, WrongSender, TwoRequests}
 use Rattle.node.proofs.Answers.{test-met}
 
 -- Hearing

@@ -10,8 +10,8 @@ use Rattle.node.specs.declared.Setup.{Setup}
 use Rattle.node.specs.Model.{Epoch}
 use Rattle.node.specs.Model.{Node}
 use Rattle.node.specs.declared.Phase.TheVariants.{Waiting, Negotiation}
-use Rattle.node.specs.declared.Answer.{Answer}
-use Rattle.node.specs.declared.Answer.TheVariants.{Done, OutOfRange, NoSuchNode}
+use Rattle.node.specs.Answers.{Answer}
+use Rattle.node.specs.Answers.{Done, OutOfRange, NoSuchNode}
 
 -- an epoch of which nothing has been but its place: C_e and I_e are empty, no mark
 abbrev pub empty_epoch : ℕ → Epoch

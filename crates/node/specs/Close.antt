@@ -13,7 +13,7 @@ use Rattle.node.specs.Model.{Node}
 use Rattle.node.specs.declared.Phase.TheVariants.{Distribution}
 use Rattle.node.specs.declared.Verdict.{Verdict}
 use Rattle.node.specs.declared.Verdict.TheVariants.{Determines, Repeats, Silent}
-use Rattle.node.specs.declared.Answer.{Answer}
+use Rattle.node.specs.Answers.{Answer}
 
 -- line 24: no node of M' lacks a request in R', and, unless the site may split, M' is a majority
 unfoldable pub complete : Node → Bool

@@ -8,8 +8,8 @@ use Rattle.node.specs.Model.{Epoch}
 use Rattle.node.specs.Model.{Node}
 use Rattle.node.specs.declared.Phase.{Phase}
 use Rattle.node.specs.Model.{Versioned}
-use Rattle.node.specs.declared.Answer.{Answer}
-use Rattle.node.specs.declared.Answer.TheVariants.{Done, WrongPhase, WrongSender}
+use Rattle.node.specs.Answers.{Answer}
+use Rattle.node.specs.Answers.{Done, WrongPhase, WrongSender}
 
 -- what a node sends in distribution: its version and schedule
 unfoldable pub sent_by : Node → Versioned

@@ -11,8 +11,8 @@ use Rattle.node.specs.Model.{Epoch}
 use Rattle.node.specs.Model.{Node}
 use Rattle.node.specs.declared.Phase.{Phase}
 use Rattle.node.specs.declared.Phase.TheVariants.{Waiting, Negotiation}
-use Rattle.node.specs.declared.Answer.{Answer}
-use Rattle.node.specs.declared.Answer.TheVariants.{Done, WrongPhase}
+use Rattle.node.specs.Answers.{Answer}
+use Rattle.node.specs.Answers.{Done, WrongPhase}
 
 -- an epoch at the next place, and all else as it was
 abbrev pub at_next_place : Epoch → Epoch

@@ -10,8 +10,8 @@ use Rattle.node.specs.Model.{Epoch}
 use Rattle.node.specs.Model.{Node}
 use Rattle.node.specs.declared.Phase.{Phase}
 use Rattle.node.specs.declared.Packet.{Packet}
-use Rattle.node.specs.declared.Answer.{Answer}
-use Rattle.node.specs.declared.Answer.TheVariants.{Done, WrongPhase, OwnPacket, TwoRequests}
+use Rattle.node.specs.Answers.{Answer}
+use Rattle.node.specs.Answers.{Done, WrongPhase, OwnPacket, TwoRequests}
 
 -- lines 5 to 8: both versions are v, M' is M, R' has the own request and no other, C_r is empty
 unfoldable pub opened : ℕ → ℕ → ℕ → ℕ → Round

@@ -6,8 +6,8 @@ use Rattle.node.specs.Answers.{is_done}
 use Rattle.node.specs.Close.{close_answer, closed_node}
 use Rattle.node.specs.End.{end_answer, ended_node}
 use Rattle.node.specs.Model.{Node}
-use Rattle.node.specs.declared.Answer.{Answer}
-use Rattle.node.specs.declared.Answer.TheVariants.{Done, OutOfRange}
+use Rattle.node.specs.Answers.{Answer}
+use Rattle.node.specs.Answers.{Done, OutOfRange}
 
 -- the next node where the answer is Done, and the node as it was after a refusal
 abbrev pub outcome : Answer → Node → Node → Node

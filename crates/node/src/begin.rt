@@ -10,10 +10,10 @@ use crate::{Core, Phase, Setup};
 
 impl Core {
     // A node as an epoch begins, in the first round's negotiation.
+    #[tactic(auto, unfolding(crate::specs::Begin::begun))]
     pub(crate) fn begin(setup: Setup, version: u32, demand: u8, request: u8, flags: u32) -> Core
         ensures { result ≡ core_of (begun setup version free demand request flags) }
     {
-        let round = opening(setup.node, version, flags, request);
         Core {
             setup,
             version,
@@ -21,7 +21,7 @@ impl Core {
             request,
             phase: Phase::Negotiation,
             flags,
-            round,
+            round: opening(setup.node, version, flags, request),
             counters: [0u8; 32],
             interactions: 0,
             place: 0,
@@ -37,10 +37,10 @@ impl Core {
     }
 
     // A restarted node, which waits for the epoch's end at a place.
+    #[tactic(auto, unfolding(crate::specs::Begin::waiting))]
     pub fn restart(setup: Setup, flags: u32, place: u32) -> Core
         ensures { result ≡ core_of (waiting setup flags place 0) }
     {
-        let round = no_round();
         Core {
             setup,
             version: 0,
@@ -48,7 +48,7 @@ impl Core {
             request: 0,
             phase: Phase::Waiting,
             flags,
-            round,
+            round: no_round(),
             counters: [0u8; 32],
             interactions: 0,
             place,

@@ -14,17 +14,18 @@ fn take_move(same: bool) -> Move
 impl Core {
     // Lines 39 to 41, and the specification's own rule on `updated` (3.3): the sender's schedule is held in place of the own one, and then
     // the schedules are moved.
+    #[tactic(auto, unfolding(crate::specs::Core::core_taken, crate::specs::Distribution::taken_node, crate::specs::Distribution::taken_epoch))]
     pub fn take(mut self, v: u32) -> CoreStep
         ensures { result ≡ core_taken self v }
     {
-        let s = self.setup;
         let same = self.version == v;
-        let request = self.request_at(v);
-        let change = take_move(same);
+        self.request = self.request_at(v);
         self.version = v;
-        self.request = request;
-        self.interactions = words::all(s.config.nodes);
-        self.updated = self.updated & same;
-        CoreStep { core: self, change }
+        self.interactions = words::all(self.setup.config.nodes);
+        self.updated &= same;
+        CoreStep {
+            core: self,
+            change: take_move(same),
+        }
     }
 }

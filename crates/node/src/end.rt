@@ -18,36 +18,24 @@ fn left(none: bool, w: u32) -> u32
 fn end_move(last: bool, expired: bool) -> Move
     ensures { result ≡ end_move_by last expired }
 {
-    if last {
-        if expired {
-            return Move::Free;
-        }
-        return Move::Drop;
+    match (last, expired) {
+        (true, true) => Move::Free,
+        (true, false) => Move::Drop,
+        (false, _) => Move::Keep,
     }
-    Move::Keep
 }
 
 impl Core {
     // A waiting node counts the rounds.
+    #[tactic(auto, unfolding(crate::specs::End::waits_on))]
     fn waits_on(self) -> Core
         requires { is_last self.setup.config self.place ≡ false }
         ensures { result ≡ core_of (waits_on (bare self)) }
     {
-        let setup = self.setup;
-        let counters = self.counters;
-        let round = self.round;
         Core {
-            setup,
-            version: self.version,
-            demand: self.demand,
-            request: self.request,
             phase: Phase::Waiting,
-            flags: self.flags,
-            round,
-            counters,
-            interactions: self.interactions,
             place: self.place + 1,
-            updated: self.updated,
+            ..self
         }
     }
 
@@ -55,11 +43,9 @@ impl Core {
     fn is_expired(self, last: bool) -> bool
         ensures { result ≡ (last && expires (bare self)) }
     {
-        if !last {
-            return false;
-        }
         let s = self.setup;
-        s.config
+        last && s
+            .config
             .is_too_few(membership::counters::with_self(self.interactions, s.node))
     }
 
@@ -68,11 +54,11 @@ impl Core {
         ensures { result ≡ flags_after self last }
     {
         let s = self.setup;
-        let counters = self.counters;
         if last {
-            return membership::counters::members_of(counters, s.node, s.config.min_heard);
+            membership::counters::members_of(self.counters, s.node, s.config.min_heard)
+        } else {
+            self.flags
         }
-        self.flags
     }
 
     // Line 43, and line 55 in the epoch's last round.
@@ -80,10 +66,7 @@ impl Core {
         requires { last ≡ is_last self.setup.config self.place }
         ensures { result ≡ cond last 0 (self.place + 1) }
     {
-        if last {
-            return 0;
-        }
-        self.place + 1
+        if last { 0 } else { self.place + 1 }
     }
 
     // Lines 43 to 55 of a node that doesn't wait: the next round, and in the epoch's last one the next epoch.
@@ -91,49 +74,44 @@ impl Core {
         ensures { result ≡ core_round_ended self }
     {
         let setup = self.setup;
-        let old = self.counters;
         let last = setup.config.is_last(self.place);
         let expired = self.is_expired(last);
         let flags = self.flags_after(last);
         let version = left(expired, self.version);
         let request = self.request_at(version);
-        let round = opening(setup.node, version, flags, request);
-        let counters = membership::counters::kept(old, last);
-        let interactions = left(last, self.interactions);
-        let place = self.place_after(last);
-        let change = end_move(last, expired);
         CoreStep {
             core: Core {
-                setup,
                 version,
-                demand: self.demand,
                 request,
                 phase: Phase::Negotiation,
                 flags,
-                round,
-                counters,
-                interactions,
-                place,
+                round: opening(setup.node, version, flags, request),
+                counters: membership::counters::kept(self.counters, last),
+                interactions: left(last, self.interactions),
+                place: self.place_after(last),
                 updated: self.updated & !last,
+                ..self
             },
-            change,
+            change: end_move(last, expired),
         }
     }
 
     // The same of a node that restarted and waits.
+    #[tactic(auto, unfolding(crate::specs::Core::core_waited, crate::specs::Begin::begun))]
     fn waited(self) -> CoreStep
         ensures { result ≡ core_waited self }
     {
         let setup = self.setup;
         if setup.config.is_last(self.place) {
-            return CoreStep {
+            CoreStep {
                 core: Core::begin(setup, 0, self.demand, self.demand, self.flags),
                 change: Move::Free,
-            };
-        }
-        CoreStep {
-            core: self.waits_on(),
-            change: Move::Keep,
+            }
+        } else {
+            CoreStep {
+                core: self.waits_on(),
+                change: Move::Keep,
+            }
         }
     }
 
@@ -141,10 +119,10 @@ impl Core {
     pub fn end(self) -> CoreStep
         ensures { result ≡ core_ended self }
     {
-        let phase = self.phase;
-        if is_waiting(phase) {
-            return self.waited();
+        if is_waiting(self.phase) {
+            self.waited()
+        } else {
+            self.round_ended()
         }
-        self.round_ended()
     }
 }

@@ -19,6 +19,7 @@ impl Config {
     }
 
     // N, K and F are within the figures of the node type, `heard` is 1 to F, and `split` 0 or 1.
+    #[tactic(auto, unfolding(crate::specs::Figures::config_ok))]
     pub fn config_ok(self) -> bool
         ensures { result ≡ config_ok self }
     {
@@ -34,10 +35,7 @@ impl Config {
     pub fn is_last(self, place: u32) -> bool
         ensures { result ≡ is_last self place }
     {
-        if self.rounds <= place {
-            return true;
-        }
-        self.rounds - place <= 1
+        self.rounds.saturating_sub(place) <= 1
     }
 
     // Line 24: a set of nodes is enough for a close.
@@ -64,6 +62,7 @@ impl Setup {
     }
 
     // No flag from N up, and the own flag.
+    #[tactic(auto, unfolding(crate::specs::Figures::flags_ok))]
     pub fn flags_ok(self, flags: u32) -> bool
         ensures { result ≡ flags_ok self flags }
     {

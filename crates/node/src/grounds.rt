@@ -3,21 +3,14 @@ ghost use Rattle.std.specs.Prelude.{◌≡◌};
 ghost use Rattle.node.specs.Grounds.{rule_number, first_rule, missing_of, ground_of};
 ghost use Rattle.node.specs.Core.{bare};
 
-use crate::close::{is_determining, verdict_of, versions_rule};
-use crate::{Core, Ground, Rule};
+use crate::close::{verdict_of, versions_rule};
+use crate::{Core, Ground, Rule, Verdict};
 
-// The number of a rule.
-pub fn rule_number(r: Rule) -> u8
-    ensures { result ≡ rule_number r }
-{
-    match r {
-        Rule::RequestMissing => 1,
-        Rule::NoMajority => 2,
-        Rule::OwnLower => 3,
-        Rule::Repeating => 4,
-        Rule::AtTop => 5,
-        Rule::NotDue => 6,
-        Rule::NewSent => 7,
+impl From<Rule> for u8 {
+    ghost from_gives = { λ r n. n ≡ rule_number r };
+
+    fn from(r: Rule) -> u8 {
+        r as u8 + 1
     }
 }
 
@@ -27,12 +20,11 @@ impl Core {
         requires { missing ≡ missing_of (bare self) }
         ensures { result ≡ first_rule (bare self) }
     {
-        let f = self.setup.config;
         let r = self.round;
         if 0 < missing {
             return Rule::RequestMissing;
         }
-        if !f.is_enough(r.merged) {
+        if !self.setup.config.is_enough(r.merged) {
             return Rule::NoMajority;
         }
         versions_rule(self.version, r.lowest, r.highest)
@@ -43,24 +35,15 @@ impl Core {
         ensures { result ≡ ground_of (bare self) }
     {
         let r = self.round;
-        let known = r.known;
-        let missing = membership::requests::lowest_missing(r.merged, known);
+        let missing = membership::requests::lowest_missing(r.merged, r.known);
         let first = self.first_told(missing);
-        if self.is_due(is_determining(verdict_of(first))) {
-            return Ground {
-                rule: Rule::NewSent,
-                missing,
-            };
-        }
-        if self.updated {
-            return Ground {
-                rule: Rule::NotDue,
-                missing,
-            };
-        }
-        Ground {
-            rule: first,
-            missing,
-        }
+        let rule = if self.is_due(verdict_of(first) == Verdict::Determines) {
+            Rule::NewSent
+        } else if self.updated {
+            Rule::NotDue
+        } else {
+            first
+        };
+        Ground { rule, missing }
     }
 }

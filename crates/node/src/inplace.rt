@@ -6,6 +6,7 @@ ghost use Rattle.node.specs.InPlace.{both_size, dealt_in, moved_there, moved_in,
 use crate::{Core, Move};
 
 // The bytes of one schedule, and of both.
+// Kept: no plainer: crate masks says the size of its masks within itself alone.
 const ONE: usize = 352;
 
 const BOTH: usize = 704;
@@ -15,17 +16,11 @@ impl Move {
     pub fn keeps(self) -> bool
         ensures { result ≡ keeps self }
     {
-        match self {
-            Move::Keep => true,
-            Move::Determine => false,
-            Move::Raise => false,
-            Move::DetermineAndRaise => false,
-            Move::Drop => false,
-            Move::Free => false,
-        }
+        self == Move::Keep
     }
 
     // What it makes of both schedules, where it deals and raises none, as an end's does: no core is asked. Any other leaves them here.
+    #[tactic(auto, unfolding(crate::specs::InPlace::dropped_in))]
     pub fn drop_at(self, s: &mut [u8], at: usize)
         ensures { s.new ≡ dropped_in self s.old at }
     {
@@ -34,10 +29,7 @@ impl Move {
         }
         let next = at + ONE;
         match self {
-            Move::Keep => {}
-            Move::Determine => {}
-            Move::Raise => {}
-            Move::DetermineAndRaise => {}
+            Move::Keep | Move::Determine | Move::Raise | Move::DetermineAndRaise => {}
             Move::Drop => masks::clear(s, next),
             Move::Free => {
                 masks::clear(s, at);
@@ -49,14 +41,14 @@ impl Move {
 
 impl Core {
     // Line 27: the schedule that a node determines from the one at a place, to a place, which may be the same.
+    #[tactic(auto, unfolding(allotment::specs::InPlace::next_in))]
     fn deal_at(self, s: &mut [u8], at: usize, to: usize)
         requires { (at + masks_size ≤ length s.old) × (to + masks_size ≤ length s.old) }
         ensures { s.new ≡ dealt_in self s.old at to }
     {
         let f = self.setup.config;
         let r = self.round;
-        let known = r.known;
-        allotment::next_at(s, at, to, r.merged, known, f.nodes, f.slots);
+        allotment::next_at(s, at, to, r.merged, r.known, f.nodes, f.slots);
     }
 
     // A move of both.
@@ -76,19 +68,16 @@ impl Core {
                 self.deal_at(s, at, at);
                 masks::clear(s, next);
             }
-            Move::Drop => change.drop_at(s, at),
-            Move::Free => change.drop_at(s, at),
+            Move::Drop | Move::Free => change.drop_at(s, at),
         }
     }
 
     // The schedules after a step, by the core before it. Without room for both nothing changes.
+    #[tactic(auto, unfolding(crate::specs::InPlace::moved_in))]
     pub fn move_at(self, s: &mut [u8], at: usize, change: Move)
         ensures { s.new ≡ moved_in change self s.old at }
     {
-        if s.len() < at {
-            return;
-        }
-        if s.len() - at < BOTH {
+        if s.len().saturating_sub(at) < BOTH {
             return;
         }
         self.move_there(s, at, change);

@@ -13,10 +13,9 @@ mod parts;
 mod refusals;
 
 ghost use Rattle.std.specs.Prelude.{◌≡◌};
-ghost use Rattle.node.specs.Answers.{number, is_done};
+ghost use Rattle.node.specs.Answers.{refusal_number, number};
 ghost use Rattle.node.specs.Figures.{is_waiting, negotiates, distributes, sending};
 
-pub use grounds::rule_number;
 pub use refusals::{end_answer, negotiation_answer, take_answer, want_answer};
 
 // The figures of a site (specification, 1 Figures): N nodes, K slots, F rounds in an epoch.
@@ -49,7 +48,7 @@ pub struct Round {
 }
 
 // A restarted node waits until the epoch is over; in distribution a node sends or doesn't.
-#[derive(Clone, Copy)]
+#[derive(Clone, Copy, PartialEq, Eq)]
 pub enum Phase {
     Waiting,
     Negotiation,
@@ -75,7 +74,7 @@ pub struct Core {
 
 // What a step makes of them. `Determine`: a schedule is determined. `Raise`: the determined one is held, and none is
 // determined. `Drop`: none is determined. `Free`: and all slots are free.
-#[derive(Clone, Copy)]
+#[derive(Clone, Copy, PartialEq, Eq)]
 pub enum Move {
     Keep,
     Determine,
@@ -102,10 +101,9 @@ pub struct Packet {
     pub requests: [u8; 32],
 }
 
-// Done, or the refusals in the order of their numbers (specification, 9 Refusals).
-#[derive(Clone, Copy)]
-pub enum Answer {
-    Done,
+// What a call is refused for, in the order of the numbers (specification, 9 Refusals).
+#[derive(Clone, Copy, PartialEq, Eq)]
+pub enum Refusal {
     BadNames,
     OutOfRange,
     NoSuchNode,
@@ -126,8 +124,11 @@ pub enum Answer {
     NotGiven,
 }
 
+// A call is done, or refused.
+pub type Answer = Result<(), Refusal>;
+
 // What a close makes of a node: lines 24 to 29.
-#[derive(Clone, Copy)]
+#[derive(Clone, Copy, PartialEq, Eq)]
 pub enum Verdict {
     Determines,
     Repeats,
@@ -171,77 +172,46 @@ impl Core {
     pub const TOP_VERSION: u32 = 1000000;
 }
 
-// The number of an answer (specification, 9 Refusals), 0 for Done.
+impl From<Refusal> for u32 {
+    ghost from_gives = { λ r n. n ≡ refusal_number r };
+
+    fn from(r: Refusal) -> u32 {
+        r as u32 + 1
+    }
+}
+
+// The number of an answer (specification, 9 Refusals), 0 for one that is no refusal.
 pub fn code(a: Answer) -> u32
     ensures { result ≡ number a }
 {
     match a {
-        Answer::Done => 0,
-        Answer::BadNames => 1,
-        Answer::OutOfRange => 2,
-        Answer::NoSuchNode => 3,
-        Answer::WrongPhase => 4,
-        Answer::NotLive => 5,
-        Answer::NotDown => 6,
-        Answer::TooManyPackets => 7,
-        Answer::NoSuchPacket => 8,
-        Answer::OwnPacket => 9,
-        Answer::WrongSender => 10,
-        Answer::WrongLength => 11,
-        Answer::BadContents => 12,
-        Answer::TwoRequests => 13,
-        Answer::NotANode => 14,
-        Answer::NoRoom => 15,
-        Answer::BadWindows => 16,
-        Answer::Crowded => 17,
-        Answer::NotGiven => 18,
+        Ok(()) => 0,
+        Err(r) => u32::from(r),
     }
 }
 
-// Whether a call was accepted.
-pub fn is_done(a: Answer) -> bool
-    ensures { result ≡ is_done a }
-{
-    code(a) == 0
-}
-
+// Kept: no plainer: as methods of Phase the four tests would read alike, and the crates above call them by these names.
 pub fn is_waiting(phase: Phase) -> bool
     ensures { result ≡ is_waiting phase }
 {
-    match phase {
-        Phase::Waiting => true,
-        Phase::Negotiation => false,
-        Phase::Distribution { sends: _ } => false,
-    }
+    phase == Phase::Waiting
 }
 
 pub fn is_negotiation(phase: Phase) -> bool
     ensures { result ≡ negotiates phase }
 {
-    match phase {
-        Phase::Waiting => false,
-        Phase::Negotiation => true,
-        Phase::Distribution { sends: _ } => false,
-    }
+    phase == Phase::Negotiation
 }
 
 pub fn is_distribution(phase: Phase) -> bool
     ensures { result ≡ distributes phase }
 {
-    match phase {
-        Phase::Waiting => false,
-        Phase::Negotiation => false,
-        Phase::Distribution { sends: _ } => true,
-    }
+    matches!(phase, Phase::Distribution { .. })
 }
 
 // Whether a node sends its version and schedule.
 pub fn is_sending(phase: Phase) -> bool
     ensures { result ≡ sending phase }
 {
-    match phase {
-        Phase::Waiting => false,
-        Phase::Negotiation => false,
-        Phase::Distribution { sends } => sends,
-    }
+    matches!(phase, Phase::Distribution { sends: true })
 }

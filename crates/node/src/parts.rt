@@ -20,6 +20,7 @@ impl Core {
     }
 
     // Another demand, where it was not refused. The request stays.
+    #[tactic(auto, unfolding(crate::specs::Steps::wanted_node))]
     pub fn want(mut self, demand: u8) -> Core
         ensures { result ≡ core_of (wanted_node (bare self) demand) }
     {

@@ -5,32 +5,32 @@ ghost use Rattle.node.specs.Figures.{config_ok, is_node};
 ghost use Rattle.node.specs.Negotiation.{in_negotiation};
 ghost use Rattle.node.specs.Distribution.{may_take};
 ghost use Rattle.node.specs.End.{may_end};
+ghost use Rattle.node.specs.Answers.{Done, OutOfRange, NoSuchNode};
 ghost use Rattle.node.specs.Begin.{start_answer, restart_answer};
 ghost use Rattle.node.specs.Steps.{want_answer};
 
-use crate::{Answer, Phase, Setup, is_distribution, is_negotiation, is_sending};
+use crate::{Answer, Phase, Refusal, Setup, is_negotiation};
 
 // A send, a hear and a close: 4 outside negotiation.
 pub fn negotiation_answer(phase: Phase) -> Answer
     ensures { result ≡ in_negotiation phase }
 {
     if is_negotiation(phase) {
-        return Answer::Done;
+        Ok(())
+    } else {
+        Err(Refusal::WrongPhase)
     }
-    Answer::WrongPhase
 }
 
 // 4 outside distribution, 10 where the taker sends.
 pub fn take_answer(phase: Phase) -> Answer
     ensures { result ≡ may_take phase }
 {
-    if !is_distribution(phase) {
-        return Answer::WrongPhase;
+    match phase {
+        Phase::Distribution { sends: false } => Ok(()),
+        Phase::Distribution { sends: true } => Err(Refusal::WrongSender),
+        Phase::Waiting | Phase::Negotiation => Err(Refusal::WrongPhase),
     }
-    if is_sending(phase) {
-        return Answer::WrongSender;
-    }
-    Answer::Done
 }
 
 // 4 in negotiation.
@@ -38,43 +38,48 @@ pub fn end_answer(phase: Phase) -> Answer
     ensures { result ≡ may_end phase }
 {
     if is_negotiation(phase) {
-        return Answer::WrongPhase;
+        Err(Refusal::WrongPhase)
+    } else {
+        Ok(())
     }
-    Answer::Done
 }
 
 fn is_demand(demand: u32) -> bool
     ensures { result ≡ leb demand top_request }
 {
-    demand <= allotment::TOP_REQUEST as u32
+    demand <= u32::from(allotment::TOP_REQUEST)
 }
 
 // 2 above the greatest demand.
+#[tactic(auto, unfolding(crate::specs::Steps::want_answer))]
 pub fn want_answer(demand: u32) -> Answer
     ensures { result ≡ want_answer demand }
 {
     if is_demand(demand) {
-        return Answer::Done;
+        Ok(())
+    } else {
+        Err(Refusal::OutOfRange)
     }
-    Answer::OutOfRange
 }
 
 impl Setup {
     // The answer to a beginning: first on its numbers, then on the node.
     fn begin_answer(self, numbers: bool) -> Answer
         ensures { result ≡ cond (config_ok self.config && numbers)
-            (cond (is_node self) Answer.Done Answer.NoSuchNode) Answer.OutOfRange }
+            (cond (is_node self) Done NoSuchNode) OutOfRange }
     {
         if !(self.config.config_ok() & numbers) {
-            return Answer::OutOfRange;
+            return Err(Refusal::OutOfRange);
         }
         if self.is_node() {
-            return Answer::Done;
+            Ok(())
+        } else {
+            Err(Refusal::NoSuchNode)
         }
-        Answer::NoSuchNode
     }
 
     // 2 on the figures, the version, the demand and the flags; 3 on the node.
+    #[tactic(auto, unfolding(crate::specs::Begin::start_answer))]
     pub fn start_answer(self, version: u32, flags: u32, demand: u32) -> Answer
         ensures { result ≡ start_answer self version flags demand }
     {
@@ -83,6 +88,7 @@ impl Setup {
     }
 
     // 2 on the figures, the place and the flags; 3 on the node.
+    #[tactic(auto, unfolding(crate::specs::Begin::restart_answer))]
     pub fn restart_answer(self, flags: u32, place: u32) -> Answer
         ensures { result ≡ restart_answer self flags place }
     {

@@ -1,7 +1,7 @@
 -- Every accepted step keeps the ranges.
 -- Assumes nothing.
 use mathlib.Core.Path.{◌≡◌, refl, sym, ap, ap₂, ◌∙◌}
-use mathlib.Core.Bool.{Bool, true, false, not, cond, ◌&&◌, ◌||◌}
+use mathlib.Core.Bool.{Bool, true, false, cond, ◌&&◌, ◌||◌}
 use mathlib.Core.List.{List}
 use Prim.Native.Nat.{ℕ, min, max, ◌+◌, ◌-◌, ◌^◌, ◌≤◌, ◌<◌}
 use native.Mathlib.Omega.{arith}
@@ -41,7 +41,7 @@ use Rattle.node.specs.declared.Packet.{Packet}
 use Rattle.node.specs.Model.{Versioned}
 use Rattle.node.specs.declared.Phase.{Phase}
 use Rattle.node.specs.declared.Phase.TheVariants.{Waiting, Negotiation, Distribution}
-use Rattle.node.specs.declared.Answer.TheVariants.{Done, WrongPhase}
+use Rattle.node.specs.Answers.{Done, WrongPhase}
 use Rattle.node.proofs.Answers.{test-met, test-passed}
 use Rattle.node.proofs.Bare.{close-phase, ends-phase, hear-talks}
 use Rattle.node.proofs.Bounds.{flags-below, flags-own}

@@ -1,24 +1,23 @@
 -- What the steps of a node within the ranges come to, and what it sends.
 -- Assumes nothing.
 use mathlib.Core.Path.{◌≡◌, refl, sym, ap, ap₂, ◌∙◌, subst}
-use mathlib.Core.Bool.{Bool, true, false, not, cond, ◌||◌}
-use Prim.Native.Nat.{ℕ, ◌+◌, ◌-◌, ◌≤◌, ◌<◌}
+use mathlib.Core.Bool.{Bool, true, false, cond, ◌||◌}
+use Prim.Native.Nat.{ℕ, ◌+◌, ◌≤◌, ◌<◌}
 use native.Mathlib.Omega.{arith}
 use borrow.Author.Tests.{lt-ltb, ne_eqb}
-use lib.Bits
 use lib.Dec.{eqb, ltb}
 use lib.ListN.{length, get_or}
 use Rattle.words.specs.Bits.{has_bit, is_in}
-use Rattle.words.proofs.Tests.{clash, same_or_not, by-test, hit, skip}
+use Rattle.words.proofs.Tests.{clash, same_or_not, hit, skip}
 use Rattle.words.proofs.Laws.{inside-in}
 use Rattle.lists.specs.All.{bounded}
 use Rattle.lists.proofs.Bounded.{bounded_at, bounded-over}
-use Rattle.allotment.specs.Allotment.{top_request, owners_of, owner_of, free}
+use Rattle.allotment.specs.Allotment.{top_request, owners_of, free}
 use Rattle.allotment.proofs.Schedules.{owner_at, free-is}
 use Rattle.allotment.specs.Model.{Schedule}
 use Rattle.membership.specs.requests.Requests.{none, entry_of}
 use Rattle.node.specs.Figures.{top_version, successor, negotiates, sending}
-use Rattle.node.specs.Negotiation.{packet_of, within}
+use Rattle.node.specs.Negotiation.{packet_of}
 use Rattle.node.specs.Close.{level, repeats, counts_by, due, closed_node}
 use Rattle.membership.specs.counters.Counters.{plus}
 use Rattle.node.specs.Distribution.{sent_by}

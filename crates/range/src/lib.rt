@@ -14,29 +14,29 @@ pub fn used_slots(used: bool, slots: u32) -> u32
     if used { slots } else { 0 }
 }
 
+#[tactic(auto, unfolding(crate::specs::Range::round_ok))]
 fn round_ok(c: Core) -> bool
     ensures { result ≡ round_ok (bare c) }
 {
     let s = c.setup;
     let r = c.round;
-    let known = r.known;
     let versions = (r.lowest <= c.version)
         & ((c.version <= r.highest) & (r.highest <= Core::TOP_VERSION));
     let flags = words::below(r.merged, s.config.nodes) & words::inside(c.flags, r.merged);
-    let asked = membership::requests::requests_within(known, r.merged)
-        & (membership::requests::entry_of(known, s.node) == c.request);
+    let asked = membership::requests::requests_within(r.known, r.merged)
+        & (membership::requests::entry_of(r.known, s.node) == c.request);
     let heard = words::below(r.heard, s.config.nodes);
     versions & (flags & (asked & heard))
 }
 
+#[tactic(auto, unfolding(crate::specs::Range::round_lapsed))]
 fn round_lapsed(r: Round) -> bool
     ensures { result ≡ round_lapsed r }
 {
-    let known = r.known;
     let none = membership::requests::no_requests();
     let words = (r.merged == 0) & (r.heard == 0);
     let versions = (r.lowest == 0) & (r.highest == 0);
-    words & (versions & lists::equal(&known, &none))
+    words & (versions & lists::equal(&r.known, &none))
 }
 
 // The closes of this epoch that a node has seen.
@@ -47,7 +47,7 @@ fn closes_of(phase: Phase, place: u32) -> u32
     match phase {
         Phase::Waiting => 0,
         Phase::Negotiation => place,
-        Phase::Distribution { sends: _ } => place + 1,
+        Phase::Distribution { .. } => place + 1,
     }
 }
 
@@ -55,37 +55,31 @@ fn epoch_ok(c: Core) -> bool
     ensures { result ≡ epoch_ok (bare c) }
 {
     let s = c.setup;
-    let phase = c.phase;
-    let counters = c.counters;
     if s.config.rounds <= c.place {
         return false;
     }
-    let counted = lists::all_fit(&counters, s.config.nodes, closes_of(phase, c.place));
+    let counted = lists::all_fit(&c.counters, s.config.nodes, closes_of(c.phase, c.place));
     let interactions = words::below(c.interactions, s.config.nodes);
     let may = c.version < Core::TOP_VERSION;
     (counted & interactions) & (!c.updated | may)
 }
 
+#[tactic(auto, unfolding(crate::specs::Range::waiting_ok))]
 fn waiting_ok(c: Core) -> bool
     ensures { result ≡ waiting_ok (bare c) }
 {
-    let round = c.round;
     let numbers = (c.version == 0) & (c.request == 0);
     let marks = (c.interactions == 0) & !c.updated;
-    numbers & (marks & round_lapsed(round))
+    numbers & (marks & round_lapsed(c.round))
 }
 
 fn phase_ok(c: Core) -> bool
     ensures { result ≡ phase_ok c.phase (bare c) }
 {
-    let phase = c.phase;
-    match phase {
+    match c.phase {
         Phase::Waiting => waiting_ok(c),
         Phase::Negotiation => round_ok(c),
-        Phase::Distribution { sends: _ } => {
-            let round = c.round;
-            round_lapsed(round)
-        }
+        Phase::Distribution { .. } => round_lapsed(c.round),
     }
 }
 

@@ -14,7 +14,7 @@ use Rattle.node.specs.Answers.{is_done}
 use Rattle.node.specs.Figures.{top_version, is_last}
 use Rattle.node.specs.Negotiation.{packet_of, heard_node}
 use Rattle.node.specs.declared.Packet.{Packet}
-use Rattle.node.specs.declared.Answer.TheVariants.{Done}
+use Rattle.node.specs.Answers.{Done}
 use Rattle.node.proofs.Answers.{done-is}
 use Rattle.wire.specs.Layout.{packet_in}
 use Rattle.site.specs.Members.{header_of, member_at, with_node, put}

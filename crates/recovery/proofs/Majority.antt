@@ -20,7 +20,7 @@ use Rattle.node.specs.Close.{complete}
 use Rattle.node.specs.End.{interacted_with, expires}
 use Rattle.node.specs.declared.Setup.{Setup}
 use Rattle.node.specs.Model.{Node}
-use Rattle.node.specs.declared.Answer.TheVariants.{Done}
+use Rattle.node.specs.Answers.{Done}
 use Rattle.node.proofs.Majority.{enough-if, complete-if, counts-self, kept_if}
 use Rattle.range.proofs.Laws.{zero-free}
 use Rattle.site.specs.Members.{setup_of, member_at, is_live}

@@ -18,8 +18,8 @@ use Rattle.node.specs.Answers.{is_done}
 use Rattle.node.specs.Figures.{is_last, negotiates, sending}
 use Rattle.node.specs.declared.Setup.{Setup}
 use Rattle.node.specs.declared.Packet.{Packet}
-use Rattle.node.specs.declared.Answer.{Answer}
-use Rattle.node.specs.declared.Answer.TheVariants.{Done}
+use Rattle.node.specs.Answers.{Answer}
+use Rattle.node.specs.Answers.{Done}
 use Rattle.range.proofs.Ranges.{ranges}
 use Rattle.node.proofs.Phases.{in-negotiation}
 use Rattle.site.specs.Members.{setup_of}

@@ -10,7 +10,7 @@ use Rattle.lists.specs.All.{all_below, tab}
 use Rattle.allotment.specs.Allotment.{owners_of, next, targets, count}
 use Rattle.node.specs.Answers.{is_done}
 use Rattle.node.specs.Figures.{top_version, is_last}
-use Rattle.node.specs.declared.Answer.TheVariants.{Done}
+use Rattle.node.specs.Answers.{Done}
 use Rattle.wire.specs.Layout.{packet_in}
 use Rattle.site.specs.Parts.{packet_part}
 use Rattle.site.specs.Members.{nobody, header_of, is_live}

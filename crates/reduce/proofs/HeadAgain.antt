@@ -8,21 +8,22 @@ use native.Mathlib.Omega.{arith}
 use lib.ListN.{length, take}
 use Rattle.lists.specs.All.{same}
 use Rattle.text.specs.Read.{split}
-use Rattle.text.proofs.Pieces.{Some, split-some}
-use Rattle.script.specs.lines.Fields.{four_of, five_of}
-use Rattle.node.specs.declared.Answer.{Answer}
-use Rattle.node.specs.declared.Answer.TheVariants.{BadNames, OutOfRange}
+use Rattle.text.proofs.Pieces.{HasPiece, split-some}
+use Rattle.script.specs.lines.Fields.{numbers_of}
+use Rattle.node.specs.declared.Refusal.{Refusal}
+use Rattle.node.specs.declared.Refusal.TheVariants.{BadNames, OutOfRange}
 use Rattle.node.specs.Figures.{config_ok}
 use Rattle.node.specs.declared.Config.{Config}
 use Rattle.site.specs.declared.Table.{Table}
 use Rattle.script.specs.lines.Lines.{on_line}
-use Rattle.script.specs.load.Opening.{settings_names, table_names, event_names, Reading, refused, got, names_line, config_of_five, settings_line}
-use Rattle.script.specs.load.Opening.{row_in}
+use Rattle.script.specs.load.Opening.{settings_names, table_names, event_names, Reading, refused, got, names_line, config_of_five}
+use Rattle.script.specs.load.Opening.{settings_line, row_in}
 use Rattle.script.specs.load.Opening.{row_good, row_stored, empty_table, table_lines, then, opening}
 use Rattle.script.proofs.lines.Lines.{on-cut}
 use Rattle.reduce.specs.Reduced.{TextLine, lines_in, joined_lines}
 use Rattle.reduce.proofs.Heads.{Got, some-append, Headed, Heads, names-head, settings-head, table-head}
-use Rattle.reduce.proofs.ReadAgain.{AllClean, split-clean, split-ended, split-open}
+use Rattle.reduce.proofs.Lines.{AllClean, split-clean}
+use Rattle.reduce.proofs.ReadAgain.{split-ended, split-open}
 
 -- the pieces of the first k lines
 unfoldable cut : ℕ → List (List ℕ) → List (List ℕ)
@@ -31,19 +32,19 @@ cut (suc k) [] = []
 cut (suc k) (l ∷ []) = l ∷ []
 cut (suc k) (l ∷ m ∷ ls) = l ∷ cut k (m ∷ ls)
 
-cut-some : (k : ℕ) (ps : List (List ℕ)) → Some ps → Some (cut k ps)
+cut-some : (k : ℕ) (ps : List (List ℕ)) → HasPiece ps → HasPiece (cut k ps)
 unfolding cut
 cut-some zero ps h = tt
 cut-some (suc k) [] h = absurd h
 cut-some (suc k) (l ∷ []) h = tt
 cut-some (suc k) (l ∷ m ∷ ls) h = tt
 
-cut-more : (k : ℕ) (l : List ℕ) (ps : List (List ℕ)) → Some ps → cut (suc k) (l ∷ ps) ≡ l ∷ cut k ps
+cut-more : (k : ℕ) (l : List ℕ) (ps : List (List ℕ)) → HasPiece ps → cut (suc k) (l ∷ ps) ≡ l ∷ cut k ps
 unfolding cut
 cut-more k l [] h = absurd h
 cut-more k l (p ∷ ps) h = refl
 
-cut-head : (hs ls : List (List ℕ)) (j k : ℕ) → j ≡ length hs + k → Some ls → cut j (hs ++ ls) ≡ hs ++ cut k ls
+cut-head : (hs ls : List (List ℕ)) (j k : ℕ) → j ≡ length hs + k → HasPiece ls → cut j (hs ++ ls) ≡ hs ++ cut k ls
 cut-head [] ls j k e h =
     let z : j ≡ k = omega (arith, e) in
     ap (λ (i : ℕ). cut i ls) z
@@ -57,7 +58,7 @@ take_none : (k : ℕ) → ◌≡◌ {A = List TextLine} (take k []) []
 take_none zero = refl
 take_none (suc k) = refl
 
-split-first : (k : ℕ) (ps : List (List ℕ)) → AllClean ps → Some ps → split 10 (joined_lines (take k (lines_in ps))) ≡ cut k ps
+split-first : (k : ℕ) (ps : List (List ℕ)) → AllClean ps → HasPiece ps → split 10 (joined_lines (take k (lines_in ps))) ≡ cut k ps
 unfolding cut lines_in joined_lines split
 split-first zero ps c h = refl
 split-first (suc k) [] c h = absurd h
@@ -69,23 +70,23 @@ split-first (suc k) (l ∷ m ∷ ls) c h =
     split-ended l (joined_lines (take k (lines_in (m ∷ ls)))) c.0 ∙ ap (λ (r : List (List ℕ)). l ∷ r) (split-first k (m ∷ ls) c.1 tt)
 
 -- what holds of a refusal
-abbrev Bad : {A : Type 0} → (ℕ → Answer → Type 0) → Reading A → Type 0
+abbrev Bad : {A : Type 0} → (ℕ → Refusal → Type 0) → Reading A → Type 0
 Bad Q (refused n a) = Q n a
 Bad Q (got x ls) = Unit {0}
 
-bad-map : {A : Type 0} (Q R : ℕ → Answer → Type 0) (r : Reading A) → Bad Q r → ((n : ℕ) (a : Answer) → Q n a → R n a) → Bad R r
+bad-map : {A : Type 0} (Q R : ℕ → Refusal → Type 0) (r : Reading A) → Bad Q r → ((n : ℕ) (a : Refusal) → Q n a → R n a) → Bad R r
 bad-map Q R (refused n a) h f = f n a h
 bad-map Q R (got x ls) h f = tt
 
 -- a reading that starts at line m refuses line n again where only the lines up to it are left
-abbrev CutAt : {A : Type 0} → (List (List ℕ) → Reading A) → ℕ → List (List ℕ) → ℕ → Answer → Type 0
+abbrev CutAt : {A : Type 0} → (List (List ℕ) → Reading A) → ℕ → List (List ℕ) → ℕ → Refusal → Type 0
 CutAt f m ps n x = (m ≤ n) × (f (cut (suc (n - m)) ps) ≡ refused n x)
 
 abbrev Refuses : {A : Type 0} → (List (List ℕ) → Reading A) → ℕ → Type 0
-Refuses f m = (ps : List (List ℕ)) → Some ps → Bad (CutAt f m ps) (f ps)
+Refuses f m = (ps : List (List ℕ)) → HasPiece ps → Bad (CutAt f m ps) (f ps)
 
 -- a line that is tested, and the reading behind it
-module _ {A : Type 0} (m : ℕ) (a b d : Answer) (t : List ℕ → Bool) (g : List ℕ → List (List ℕ) → Reading A) where
+module _ {A : Type 0} (m : ℕ) (a b d : Refusal) (t : List ℕ → Bool) (g : List ℕ → List (List ℕ) → Reading A) where
   abbrev tested : List ℕ → List (List ℕ) → Reading A
   tested l ls = cond (t l) (g l ls) (refused m d)
 
@@ -144,16 +145,16 @@ names-refuse n names x = line-refuses n BadNames BadNames BadNames (λ l. same l
 settings-refuse : (n : ℕ) → Refuses (settings_line n) n
 unfolding settings_line
 settings-refuse n =
-    line-refuses n BadNames OutOfRange OutOfRange (λ l. config_ok (config_of_five (five_of (split 32 l))))
-    (λ l ls. got (config_of_five (five_of (split 32 l))) ls) (λ l ps s. tt)
+    line-refuses n BadNames OutOfRange OutOfRange (λ l. config_ok (config_of_five (numbers_of 5 (split 32 l))))
+    (λ l ls. got (config_of_five (numbers_of 5 (split 32 l))) ls) (λ l ps s. tt)
 
 table-refuse : (f : Config) (left i n : ℕ) (t : Table) → Refuses (table_lines f left i n t) n
 unfolding table_lines
 table-refuse f zero i n t = λ ps s. tt
 table-refuse f (suc left) i n t =
-    line-refuses n BadNames OutOfRange OutOfRange (λ l. row_good f i (four_of (split 32 l)))
-    (λ l ls. table_lines f left (i + 1) (n + 1) (row_stored t i (row_in (four_of (split 32 l)))) ls)
-    (λ l. table-refuse f left (i + 1) (n + 1) (row_stored t i (row_in (four_of (split 32 l)))))
+    line-refuses n BadNames OutOfRange OutOfRange (λ l. row_good f i (numbers_of 4 (split 32 l)))
+    (λ l ls. table_lines f left (i + 1) (n + 1) (row_stored t i (row_in (numbers_of 4 (split 32 l)))) ls)
+    (λ l. table-refuse f left (i + 1) (n + 1) (row_stored t i (row_in (numbers_of 4 (split 32 l)))))
 
 -- the lines before the events
 opening-refuses : Refuses opening 1
@@ -185,7 +186,7 @@ opening-refuses =
     4 f.nodes (table-refuse f f.nodes 0 4 empty_table) (table-head f f.nodes 0 4 empty_table)
     (λ t. names-refuse (4 + f.nodes) event_names (record { config = f; table = t })))))
 
-pub refused-again : (s : List ℕ) (n : ℕ) (x : Answer) → opening (split 10 s) ≡ refused n x
+pub refused-again : (s : List ℕ) (n : ℕ) (x : Refusal) → opening (split 10 s) ≡ refused n x
     → opening (split 10 (joined_lines (take n (lines_in (split 10 s))))) ≡ refused n x
 refused-again s n x e =
     let q = subst (Bad (CutAt opening 1 (split 10 s))) e (opening-refuses (split 10 s) (split-some 10 s)) in

@@ -7,16 +7,16 @@ use Prim.Native.Nat.{ℕ, zero, suc, ◌+◌}
 use lib.ListN.{length}
 use Rattle.lists.specs.All.{same}
 use Rattle.text.specs.Read.{split}
-use Rattle.text.proofs.Pieces.{Some}
-use Rattle.script.specs.lines.Fields.{four_of, five_of}
-use Rattle.node.specs.declared.Answer.{Answer}
-use Rattle.node.specs.declared.Answer.TheVariants.{BadNames, OutOfRange}
+use Rattle.text.proofs.Pieces.{HasPiece}
+use Rattle.script.specs.lines.Fields.{numbers_of}
+use Rattle.node.specs.declared.Refusal.{Refusal}
+use Rattle.node.specs.declared.Refusal.TheVariants.{BadNames, OutOfRange}
 use Rattle.node.specs.Figures.{config_ok}
 use Rattle.node.specs.declared.Config.{Config}
 use Rattle.site.specs.declared.Table.{Table}
 use Rattle.script.specs.lines.Lines.{on_line}
-use Rattle.script.specs.load.Opening.{settings_names, table_names, event_names, Reading, refused, got, names_line, config_of_five, settings_line}
-use Rattle.script.specs.load.Opening.{row_in}
+use Rattle.script.specs.load.Opening.{settings_names, table_names, event_names, Reading, refused, got, names_line, config_of_five}
+use Rattle.script.specs.load.Opening.{settings_line, row_in}
 use Rattle.script.specs.load.Opening.{row_good, row_stored, empty_table, table_lines, then, opening}
 use Rattle.script.proofs.lines.Lines.{on-cut}
 
@@ -30,7 +30,7 @@ pub got-map : {A : Type 0} (Q R : A → List (List ℕ) → Type 0) (r : Reading
 got-map Q R (refused n a) h f = tt
 got-map Q R (got x ls) h f = f x ls h
 
-pub some-append : (a ms : List (List ℕ)) → Some ms → Some (a ++ ms)
+pub some-append : (a ms : List (List ℕ)) → HasPiece ms → HasPiece (a ++ ms)
 some-append [] ms h = h
 some-append (l ∷ a) ms h = tt
 
@@ -39,17 +39,17 @@ pub record Headed {A : Type 0} (f : List (List ℕ) → Reading A) (k : ℕ) (ps
   pub head : List (List ℕ)
   pub is : ps ≡ head ++ ls
   pub long : length head ≡ k
-  pub same : (ms : List (List ℕ)) → Some ms → f (head ++ ms) ≡ got x ms
-  pub more : Some ls
+  pub same : (ms : List (List ℕ)) → HasPiece ms → f (head ++ ms) ≡ got x ms
+  pub more : HasPiece ls
 
 abbrev pub Heads : {A : Type 0} → (List (List ℕ) → Reading A) → ℕ → Type 0
-Heads f k = (ps : List (List ℕ)) → Some ps → Got (Headed f k ps) (f ps)
+Heads f k = (ps : List (List ℕ)) → HasPiece ps → Got (Headed f k ps) (f ps)
 
 got-heads : {A : Type 0} (x : A) → Heads (λ q. got x q) 0
 got-heads x ps s = record { head = []; is = refl; long = refl; same = λ ms h. refl; more = s }
 
 -- a line that is tested, and the reading behind it
-module _ {A : Type 0} (m : ℕ) (a b d : Answer) (t : List ℕ → Bool) (g : List ℕ → List (List ℕ) → Reading A) where
+module _ {A : Type 0} (m : ℕ) (a b d : Refusal) (t : List ℕ → Bool) (g : List ℕ → List (List ℕ) → Reading A) where
   abbrev pub tested : List ℕ → List (List ℕ) → Reading A
   tested l ls = cond (t l) (g l ls) (refused m d)
 
@@ -91,27 +91,27 @@ names-head n names x = line-heads n BadNames BadNames BadNames (λ l. same l nam
 pub settings-head : (n : ℕ) → Heads (settings_line n) 1
 unfolding settings_line
 settings-head n =
-    line-heads n BadNames OutOfRange OutOfRange (λ l. config_ok (config_of_five (five_of (split 32 l))))
-    (λ l ls. got (config_of_five (five_of (split 32 l))) ls) 0
-    (λ l. got-heads (config_of_five (five_of (split 32 l))))
+    line-heads n BadNames OutOfRange OutOfRange (λ l. config_ok (config_of_five (numbers_of 5 (split 32 l))))
+    (λ l ls. got (config_of_five (numbers_of 5 (split 32 l))) ls) 0
+    (λ l. got-heads (config_of_five (numbers_of 5 (split 32 l))))
 
 pub table-head : (f : Config) (left i n : ℕ) (t : Table) → Heads (table_lines f left i n t) left
 unfolding table_lines
 table-head f zero i n t = got-heads t
 table-head f (suc left) i n t =
-    line-heads n BadNames OutOfRange OutOfRange (λ l. row_good f i (four_of (split 32 l)))
-    (λ l ls. table_lines f left (i + 1) (n + 1) (row_stored t i (row_in (four_of (split 32 l)))) ls) left
-    (λ l. table-head f left (i + 1) (n + 1) (row_stored t i (row_in (four_of (split 32 l)))))
+    line-heads n BadNames OutOfRange OutOfRange (λ l. row_good f i (numbers_of 4 (split 32 l)))
+    (λ l ls. table_lines f left (i + 1) (n + 1) (row_stored t i (row_in (numbers_of 4 (split 32 l)))) ls) left
+    (λ l. table-head f left (i + 1) (n + 1) (row_stored t i (row_in (numbers_of 4 (split 32 l)))))
 
 -- a reading has read some lines
 pub record Read {A : Type 0} (f : List (List ℕ) → Reading A) (ps : List (List ℕ)) (x : A) (ls : List (List ℕ)) : Type 0 where
   pub head : List (List ℕ)
   pub is : ps ≡ head ++ ls
-  pub same : (ms : List (List ℕ)) → Some ms → f (head ++ ms) ≡ got x ms
-  pub more : Some ls
+  pub same : (ms : List (List ℕ)) → HasPiece ms → f (head ++ ms) ≡ got x ms
+  pub more : HasPiece ls
 
 abbrev pub Reads : {A : Type 0} → (List (List ℕ) → Reading A) → Type 0
-Reads f = (ps : List (List ℕ)) → Some ps → Got (Read f ps) (f ps)
+Reads f = (ps : List (List ℕ)) → HasPiece ps → Got (Read f ps) (f ps)
 
 heads-read : {A : Type 0} (f : List (List ℕ) → Reading A) (k : ℕ) → Heads f k → Reads f
 heads-read f k h ps s = got-map (Headed f k ps) (Read f ps) (f ps) (h ps s)

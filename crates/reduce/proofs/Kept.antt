@@ -10,17 +10,9 @@ use borrow.Author.Tests.{eq-eqb, ne_eqb}
 use lib.Dec.{eqb}
 use lib.ListN.{length, drop, length-append}
 use Rattle.text.specs.Read.{split}
-use Rattle.node.specs.declared.Answer.TheVariants.{OutOfRange}
 use Rattle.machine.specs.timed.Calls.{TimedState}
-use Rattle.site.specs.Model.{Site}
-use Rattle.script.specs.events.Events.{event_of}
-use Rattle.script.specs.lines.Lines.{line_at}
-use Rattle.script.specs.declared.Line.TheVariants.{Nothing, Open}
-use Rattle.script.proofs.lines.Lines.{Whole}
-use Rattle.reduce.specs.Reduced.{TextLine, ended, unended, lines_in, joined_lines, is_refusal, gives, LeftOut, without}
-use Rattle.reduce.specs.Inner.{Placed, placed_lines, in_front, keep, line_run, line_gives, trial_step_by}
-use Rattle.reduce.specs.declared.TrialStep.{TrialStep}
-use Rattle.reduce.proofs.Lines.{placed-none, placed-open, line_text, placed-line}
+use Rattle.reduce.specs.Reduced.{TextLine, ended, unended, lines_in, joined_lines, gives, LeftOut, without}
+use Rattle.reduce.specs.Inner.{Placed, placed_lines, in_front, keep, line_run, line_gives, NextLine, says_of, line_text, line_of}
 
 -- kept by the same test
 pub keep_same : (p q : ℕ → Bool) (xs : List Placed) → ((i : ℕ) → p i ≡ q i) → keep p xs ≡ keep q xs
@@ -39,49 +31,42 @@ pub or-false : (b : Bool) → (b || false) ≡ b
 or-false true = refl
 or-false false = refl
 
+pub or-true : (b : Bool) → (b || true) ≡ true
+or-true true = refl
+or-true false = refl
+
 -- the kept lines from a place on
 module _ (s : List ℕ) (a : ℕ) (p : ℕ → Bool) where
   abbrev pub gives_by : ℕ → TimedState → Bool
   gives_by at w = gives a w (keep p (placed_lines at (split 10 (drop at s))))
 
-  module _ (at : ℕ) (w : TimedState) where
-    pub gives_none : line_at s at ≡ Nothing → gives_by at w ≡ false
-    unfolding gives keep
-    gives_none h = ap (λ (xs : List Placed). gives a w (keep p xs)) (placed-none s at h)
+  pub gives-nothing : (at : ℕ) (w : TimedState) → placed_lines at (split 10 (drop at s)) ≡ [] → gives_by at w ≡ false
+  unfolding gives keep
+  gives-nothing at w h = ap (λ (xs : List Placed). gives a w (keep p xs)) h
 
-    pub gives-open : line_at s at ≡ Open → gives_by at w ≡ (p at && is_refusal a OutOfRange)
-    unfolding gives keep
-    gives-open h =
-        ap (λ (xs : List Placed). gives a w (keep p xs)) (placed-open s at h)
-        ∙ gives-front (p at) a w (unended (drop at s)) []
-        ∙ or-false (p at && is_refusal a OutOfRange)
+  module _ (at n : ℕ) (h : NextLine s at n) (w : TimedState) where
+    gives-line : gives_by at w ≡ (line_gives (p at) a w (says_of (line_text s at n))
+        || gives_by n (line_run (p at) w (says_of (line_text s at n))))
+    unfolding keep
+    gives-line =
+        ap (λ (xs : List Placed). gives a w (keep p xs)) h.line
+        ∙ gives-front (p at) a w (line_of (line_text s at n)) (keep p (placed_lines n (split 10 (drop n s))))
 
-    module _ {e : ℕ} (h : Whole s at e) where
-      gives_line : gives_by at w
-          ≡ (line_gives (p at) a w (event_of (line_text s at h)) || gives_by (e + 1) (line_run (p at) w (event_of (line_text s at h))))
-      unfolding keep
-      gives_line =
-          ap (λ (xs : List Placed). gives a w (keep p xs)) (placed-line s at h)
-          ∙ gives-front (p at) a w (ended (line_text s at h)) (keep p (placed_lines (e + 1) (split 10 (drop (e + 1) s))))
+    -- what a step of the line came to, and the state that it left
+    pub gives-step : (r : Bool) (u : TimedState) → r ≡ line_gives (p at) a w (says_of (line_text s at n))
+        → u ≡ line_run (p at) w (says_of (line_text s at n))
+        → gives_by at w ≡ (r || gives_by n u)
+    gives-step r u e k = gives-line ∙ ap₂ (λ (t : Bool) (v : TimedState). t || gives_by n v) (sym e) (sym k)
 
-      -- what a step of the line came to, and the site and the area that it left
-      module _ (r : TrialStep) (x : Site) (y : List ℕ) (k : r ≡ trial_step_by (p at) a w (event_of (line_text s at h)))
-          (j : x ≡ (line_run (p at) w (event_of (line_text s at h))).timed.site)
-          (m : y ≡ (line_run (p at) w (event_of (line_text s at h))).area) where
-        abbrev pub reached : TimedState
-        reached = record { timed = record { site = x; day = r.day }; area = y }
+    pub gives-hit : (r : Bool) (u : TimedState) → r ≡ line_gives (p at) a w (says_of (line_text s at n))
+        → u ≡ line_run (p at) w (says_of (line_text s at n)) → r ≡ true
+        → gives_by at w ≡ true
+    gives-hit r u e k g = gives-step r u e k ∙ ap (λ (t : Bool). t || gives_by n u) g
 
-        reached-is : line_run (p at) w (event_of (line_text s at h)) ≡ reached
-        reached-is = λ i. record { timed = record { site = sym j i; day = (sym k i).day }; area = sym m i }
-
-        pub split_step : gives_by at w ≡ (r.gave || gives_by (e + 1) reached)
-        split_step = gives_line ∙ ap₂ (λ (t : TrialStep) (v : TimedState). t.gave || gives_by (e + 1) v) (sym k) reached-is
-
-        pub gives-hit : r.gave ≡ true → gives_by at w ≡ true
-        gives-hit g = split_step ∙ ap (λ (t : Bool). t || gives_by (e + 1) reached) g
-
-        pub gives-next : r.gave ≡ false → gives_by at w ≡ gives_by (e + 1) reached
-        gives-next g = split_step ∙ ap (λ (t : Bool). t || gives_by (e + 1) reached) g
+    pub gives-next : (r : Bool) (u : TimedState) → r ≡ line_gives (p at) a w (says_of (line_text s at n))
+        → u ≡ line_run (p at) w (says_of (line_text s at n)) → r ≡ false
+        → gives_by at w ≡ gives_by n u
+    gives-next r u e k g = gives-step r u e k ∙ ap (λ (t : Bool). t || gives_by n u) g
 
 -- all lines, with some left out
 pub weaken : (ks ls : List TextLine) (l : TextLine) → LeftOut ks ls → LeftOut ks (l ∷ ls)

@@ -4,7 +4,6 @@ pub mod Kept
 pub mod Start
 pub mod Marks
 pub mod Passed
-pub mod Copies
 pub mod Writing
 pub mod Outcome
 pub mod Heads

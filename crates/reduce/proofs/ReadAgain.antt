@@ -11,37 +11,14 @@ use lib.Dec.{eqb}
 use lib.ListN.{length, take, length-append}
 use lib.Seq.{take_at}
 use Rattle.text.specs.Read.{front, split}
-use Rattle.text.proofs.Pieces.{Some, split-some}
+use Rattle.text.proofs.Pieces.{HasPiece, split-some}
 use Rattle.script.specs.load.Opening.{got, Opening, opening, bytes_in, lines_start}
 use Rattle.reduce.proofs.Kept.{weaken}
 use Rattle.reduce.specs.Again.{event_lines, without_event}
 use Rattle.reduce.specs.Reduced.{without, TextLine, ended, unended, lines_in, joined_lines, gives, LeftOut}
 use Rattle.reduce.specs.Calls.{start_state, gives_in, KeptOf}
-use Rattle.reduce.proofs.Lines.{joined-lines, lines_cut}
+use Rattle.reduce.proofs.Lines.{Clean, AllClean, split-clean, joined-lines, lines_cut}
 use Rattle.reduce.proofs.Heads.{Got, some-append, Read, opening-read}
-
--- no byte 10
-abbrev pub Clean : List ℕ → Type 0
-Clean [] = Unit {0}
-Clean (b ∷ l) = (eqb b 10 ≡ false) × Clean l
-
-abbrev pub AllClean : List (List ℕ) → Type 0
-AllClean [] = Unit {0}
-AllClean (l ∷ ls) = Clean l × AllClean ls
-
-clean-front : (b : ℕ) (ps : List (List ℕ)) → eqb b 10 ≡ false → AllClean ps → AllClean (front b ps)
-unfolding front
-clean-front b [] e h = tt
-clean-front b (p ∷ ps) e h = ((e, h.0), h.1)
-
-pub split-clean : (s : List ℕ) → AllClean (split 10 s)
-unfolding split
-split-clean [] = (tt, tt)
-split-clean (b ∷ s) = go (eqb b 10) refl (split-clean s)
-  where
-    go : (t : Bool) → eqb b 10 ≡ t → AllClean (split 10 s) → AllClean (cond t ([] ∷ split 10 s) (front b (split 10 s)))
-    go true e h = (tt, h)
-    go false e h = clean-front b (split 10 s) e h
 
 clean-append : (a ps : List (List ℕ)) → AllClean (a ++ ps) → AllClean a × AllClean ps
 clean-append [] ps h = (tt, h)
@@ -118,7 +95,7 @@ split-closed (p ∷ ps) t h =
     ∙ split-ended p (closed ps ++ t) h.0
     ∙ ap (λ (r : List (List ℕ)). p ∷ r) (split-closed ps t h.1)
 
-joined-closed : (hs ls : List (List ℕ)) → Some ls → joined_lines (lines_in (hs ++ ls)) ≡ closed hs ++ joined_lines (lines_in ls)
+joined-closed : (hs ls : List (List ℕ)) → HasPiece ls → joined_lines (lines_in (hs ++ ls)) ≡ closed hs ++ joined_lines (lines_in ls)
 unfolding closed joined_lines
 joined-closed [] ls h = refl
 joined-closed (p ∷ ps) ls h =
@@ -138,7 +115,7 @@ bytes-joined (l ∷ m ∷ ls) =
     omega (arith, k, bytes-joined (m ∷ ls))
 
 -- the head as bytes is that of the pieces read
-head-is : (s : List ℕ) (hs ls : List (List ℕ)) → Some ls → split 10 s ≡ hs ++ ls → take (lines_start s ls) s ≡ closed hs
+head-is : (s : List ℕ) (hs ls : List (List ℕ)) → HasPiece ls → split 10 s ≡ hs ++ ls → take (lines_start s ls) s ≡ closed hs
 head-is s hs ls h e =
     let r = joined_lines (lines_in ls) in
     let k : s ≡ closed hs ++ r = sym (joined-lines s) ∙ ap (λ (ps : List (List ℕ)). joined_lines (lines_in ps)) e ∙ joined-closed hs ls h in

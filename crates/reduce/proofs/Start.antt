@@ -1,43 +1,44 @@
 -- The state in which the events begin.
 -- Assumes nothing.
-use mathlib.Core.Path.{◌≡◌, refl, ap, ◌∙◌}
+use mathlib.Core.Path.{◌≡◌, refl, sym, ap, ◌∙◌}
 use mathlib.Core.Bool.{true}
 use mathlib.Core.List.{List, []}
 use Prim.Native.Nat.{ℕ}
-use lib.ListN.{replicate}
+use native.Mathlib.Omega.{arith}
+use lib.ListN.{replicate, length-replicate}
+use Rattle.std.specs.Prelude.{Result, Ok}
 use Rattle.words.proofs.Tests.{hit}
 use Rattle.lists.specs.All.{all_below}
-use Rattle.node.specs.declared.Answer.TheVariants.{Done}
-use Rattle.site.specs.Answers.{area_size}
+use Rattle.node.specs.Answers.{Answer, Done, answered}
 use Rattle.site.specs.Load.{load_answer}
 use Rattle.windows.specs.Windows.{list_ok}
-use Rattle.windows.specs.Copies.{windows_in}
-use Rattle.windows.specs.declared.Window.{Window}
-use Rattle.windows.proofs.Copies.{no_words}
-use Rattle.machine.specs.Layout.{Store, site_in}
-use Rattle.machine.specs.timed.Timed.{Timed}
-use Rattle.machine.specs.timed.Stored.{stored_load, timed_loaded_site}
-use Rattle.machine.specs.declared.DayAnswer.{DayAnswer}
-use Rattle.machine.proofs.timed.Stored.{as_load, as-begun}
-use Rattle.script.specs.declared.ScriptHead.{ScriptHead}
-use Rattle.desk.specs.listings.Inner.{run_state_in, opening_of}
-use Rattle.desk.proofs.listings.Parts.{zeros, zeros-long}
-use Rattle.reduce.specs.Calls.{start_state}
+use Rattle.machine.specs.Layout.{Store, store, site_in}
+use Rattle.machine.specs.timed.Timed.{first_epoch, loaded_timed}
+use Rattle.machine.specs.timed.Stored.{timed_in, stored_load_answer, stored_load, timed_loaded_site}
+use Rattle.machine.specs.declared.Day.{Day}
+use Rattle.machine.proofs.timed.Stored.{Long, as_load, as-begun}
+use Rattle.script.specs.declared.Opened.{Opened}
 
 -- a day of one epoch and no windows keep the rules
 pub no-windows : (n : ℕ) → list_ok n 1 [] ≡ true
 unfolding list_ok all_below
 no-windows n = refl
 
--- a load with them, of settings and table that were read
-pub begins : (o : ScriptHead) (r : DayAnswer) (u : Store) → load_answer o.config o.table ≡ Done
-    → r ≡ stored_load zeros o.config o.table 1 (windows_in [])
-    → site_in u ≡ timed_loaded_site zeros o.config o.table 1 (windows_in [])
-    → run_state_in u r.day (replicate area_size 0) ≡ start_state (opening_of o)
-begins o r u h k q =
-    let f = o.config in
-    let t = o.table in
-    ap (λ (x : Timed). record { timed = x; area = replicate area_size 0 })
-    (as-begun zeros u f t 1 [] r.day (as_load zeros f t 1 [] zeros-long h ∙ hit _ _ _ (no-windows f.nodes))
-    (ap (λ (x : DayAnswer). x.day) k)
-    (q ∙ ap (λ (ws : List Window). timed_loaded_site zeros f t 1 ws) no_words))
+-- the storage before the load
+abbrev pub zeros : Store
+zeros = store (replicate 262 0) (replicate 24769 0)
+
+zeros-long : Long zeros
+zeros-long = (omega (arith, length-replicate {A = ℕ} 262 0), omega (arith, length-replicate {A = ℕ} 24769 0))
+
+-- a load of settings and table that were read, with that day
+module _ (o : Opened) (h : load_answer o.config o.table ≡ Done) where
+  loads : stored_load_answer zeros o.config o.table 1 [] ≡ Done
+  loads = as_load zeros o.config o.table 1 [] zeros-long h ∙ hit _ _ _ (no-windows o.config.nodes)
+
+  pub day-is : stored_load zeros o.config o.table 1 [] ≡ Ok (first_epoch 1)
+  day-is = ap (λ (x : Answer). answered x (first_epoch 1)) loads
+
+  pub begins : (u : Store) (d : Day) → d ≡ first_epoch 1 → site_in u ≡ timed_loaded_site zeros o.config o.table 1 []
+      → timed_in u d ≡ loaded_timed o.config o.table 1 []
+  begins u d e k = as-begun zeros u o.config o.table 1 [] d loads e k

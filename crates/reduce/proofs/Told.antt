@@ -8,10 +8,12 @@ use Prim.Native.Nat.{ℕ, ◌<◌, ◌+◌, ◌≤◌}
 use native.Mathlib.Omega.{arith}
 use borrow.Author.Tests.{le-ltb, ltb-false}
 use lib.Dec.{ltb}
+use Rattle.std.specs.Prelude.{Result, Err}
+use Rattle.node.specs.declared.Refusal.{Refusal}
 use lib.ListN.{length, take, replicate, length-take, length-replicate}
 use Rattle.words.proofs.Tests.{hit, skip, or-neither}
 use Rattle.text.specs.Read.{split}
-use Rattle.node.specs.declared.Answer.TheVariants.{Done, OutOfRange, NoRoom, NotGiven}
+use Rattle.node.specs.Answers.{Done, OutOfRange, NoRoom, NotGiven}
 use Rattle.site.specs.Answers.{area_size}
 use Rattle.machine.specs.timed.Calls.{TimedState}
 use Rattle.script.specs.events.Events.{event_of}
@@ -20,11 +22,10 @@ use Rattle.desk.specs.listing.Rows.{first_head, refusal_line, rows_text}
 use Rattle.desk.specs.listings.Output.{second_head, top_script, line_answer, line_after, refused_lines, finished, ran_text, body, output_of}
 use Rattle.desk.specs.listings.Output as desk
 use Rattle.reduce.specs.Reduced.{lines_in, is_refusal, gives}
-use Rattle.reduce.specs.Calls.{start_state, gives_in, Keeps, unfit_script, reply_to, Answers}
+use Rattle.reduce.specs.Calls.{start_state, gives_in, Keeps, unfit_script, reply_to, reply_of, length_of, Answers}
 use Rattle.reduce.specs.Again.{event_lines, without_event, Answered, listing_lines, tells, TellsRefusals, GivesAgain}
 use Rattle.reduce.proofs.Kept.{or-false}
 use Rattle.reduce.proofs.Start.{no-windows}
-use Rattle.reduce.specs.declared.Reduction.{Reduction}
 use Rattle.reduce.proofs.ReadAgain.{gives-again, lean-again}
 use Rattle.reduce.proofs.HeadAgain.{refused-again}
 
@@ -73,12 +74,12 @@ body-told : (r : Reading Opening) → Body r
 unfolding listing_lines tells
 body-told (refused n x) =
     record {
-      lines = record { line = n; answer = x } ∷ [];
+      lines = record { line = n; answer = Err x } ∷ [];
       rest = [];
       rows = [];
-      is = sym (append-nil (refusal_line n x ++ []) ∙ append-nil (refusal_line n x));
+      is = sym (append-nil (refusal_line n (Err x) ++ []) ∙ append-nil (refusal_line n (Err x)));
       behind = inl refl;
-      given = λ a. sym (or-false (is_refusal a x));
+      given = λ a. sym (or-false (is_refusal a (Err x)));
     }
 body-told (got o ls) =
     let k = 5 + o.config.nodes in
@@ -132,15 +133,15 @@ done-is false true h = (refl, refl)
 done-is false false h = absurd (let z : ◌≡◌ {A = ℕ} 0 1 = cc in omega arith)
 
 -- what was written
-pub again : (a : ℕ) (s out : List ℕ) (r : Reduction) (after : List ℕ) → Answers a s out r after → r.reply ≡ Done
-    → GivesAgain a (take r.length after)
+pub again : (a : ℕ) (s out : List ℕ) (r : Result ℕ Refusal) (after : List ℕ) → Answers a s out r after → reply_of r ≡ Done
+    → GivesAgain a (take (length_of r) after)
 unfolding reply_to
 again a s out r after q d =
     let f = done-is (unfit_script s out) (gives_in a (opening (split 10 s))) (sym q.reply ∙ d) in
     let l : length s ≤ top_script = ltb-false top_script (length s)
     (or-neither (ltb top_script (length s)) (ltb (length out) (length s)) f.0).0 in
     record {
-      given = gives-too a s (take r.length after) (opening (split 10 s)) refl f.1 (q.script d);
-      lean = lean-too a s (take r.length after) (opening (split 10 s)) refl (q.script d);
-      listing = listing-tells (take r.length after) (omega (arith, l, q.within, length-take r.length after));
+      given = gives-too a s (take (length_of r) after) (opening (split 10 s)) refl f.1 (q.script d);
+      lean = lean-too a s (take (length_of r) after) (opening (split 10 s)) refl (q.script d);
+      listing = listing-tells (take (length_of r) after) (omega (arith, l, q.within, length-take (length_of r) after));
     }

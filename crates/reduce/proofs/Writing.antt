@@ -2,23 +2,19 @@
 -- Assumes nothing.
 use mathlib.Core.Path.{◌≡◌, refl, sym, ap, ap₂, ◌∙◌}
 use mathlib.Core.Bool.{Bool, true, false, cond}
-use mathlib.Core.List.{List, [], ◌∷◌, ◌++◌, append-nil, append_assoc}
+use mathlib.Core.List.{List, [], ◌∷◌, ◌++◌, append_assoc}
 use Prim.Native.Nat.{ℕ, zero, suc, ◌+◌, ◌-◌, ◌≤◌}
 use native.Mathlib.Omega.{arith}
 use borrow.Author.Tests.{leb-true, leb-false}
 use lib.Dec.{leb}
-use lib.ListN.{length, take, drop, length-append, length-drop, take-append-drop}
-use lib.Seq.{take_at, take_all}
+use lib.ListN.{length, take, drop, length-append, take-append-drop}
+use lib.Seq.{take_at}
 use Rattle.lists.specs.Bytes.{Tried}
 use Rattle.lists.proofs.Chain.{none, tried, not-tried}
 use Rattle.text.specs.Read.{split}
-use Rattle.script.specs.lines.Lines.{line_at}
-use Rattle.script.specs.declared.Line.TheVariants.{Nothing, Open}
-use Rattle.script.proofs.lines.Lines.{Whole}
-use Rattle.reduce.specs.Reduced.{TextLine, ended, unended, lines_in, joined_lines}
-use Rattle.reduce.specs.Inner.{Placed, placed_lines, in_front, keep}
-use Rattle.reduce.proofs.Lines.{joined-lines, placed-none, placed-open, placed-line, lines_none, lines-open, lines-line, line_text}
-use Rattle.reduce.proofs.Lines.{length-line}
+use Rattle.reduce.specs.Reduced.{TextLine, lines_in, joined_lines}
+use Rattle.reduce.specs.Inner.{Placed, placed_lines, in_front, keep, NextLine, line_text, line_of}
+use Rattle.reduce.proofs.Lines.{joined-lines, lines-nothing, lines-next, length-next}
 
 -- a line that may be left out, in front of others
 joined-front : (t : Bool) (l : TextLine) (ls : List TextLine) → joined_lines (in_front t l ls) ≡ cond t l.text [] ++ joined_lines ls
@@ -26,42 +22,19 @@ unfolding joined_lines
 joined-front true l ls = refl
 joined-front false l ls = refl
 
--- a line with its byte 10, as the script has it
-module _ (s : List ℕ) (at : ℕ) {e : ℕ} (h : Whole s at e) where
-  long-line : length (line_text s at h ++ (10 ∷ [])) ≡ e + 1 - at
-  long-line = length-append (line_text s at h) (10 ∷ [])
-      ∙ (let z : length (line_text s at h) + 1 ≡ e + 1 - at = omega (arith, length-line s at h, h.from) in z)
-
-  pub whole-text : take (e + 1 - at) (drop at s) ≡ line_text s at h ++ (10 ∷ [])
-  unfolding joined_lines
-  whole-text =
-      let l = line_text s at h ++ (10 ∷ []) in
-      let r = joined_lines (lines_in (split 10 (drop (e + 1) s))) in
-      let k : drop at s ≡ l ++ r = sym (joined-lines (drop at s)) ∙ ap joined_lines (lines-line s at h) in
-      ap (take (e + 1 - at)) k ∙ take_at l r (e + 1 - at) long-line
-
 module _ (s : List ℕ) (at : ℕ) (p : ℕ → Bool) where
   abbrev kept_text : ℕ → List ℕ
   kept_text i = joined_lines (keep p (placed_lines i (split 10 (drop i s))))
 
-  pub kept-none : line_at s at ≡ Nothing → kept_text at ≡ []
+  pub kept-nothing : placed_lines at (split 10 (drop at s)) ≡ [] → kept_text at ≡ []
   unfolding joined_lines keep
-  kept-none h = ap (λ (xs : List Placed). joined_lines (keep p xs)) (placed-none s at h)
+  kept-nothing h = ap (λ (xs : List Placed). joined_lines (keep p xs)) h
 
-  pub kept-open : line_at s at ≡ Open → kept_text at ≡ cond (p at) (take (length s - at) (drop at s)) []
-  unfolding joined_lines keep
-  kept-open h =
-      ap (λ (xs : List Placed). joined_lines (keep p xs)) (placed-open s at h)
-      ∙ joined-front (p at) (unended (drop at s)) []
-      ∙ append-nil (cond (p at) (drop at s) [])
-      ∙ ap (λ (l : List ℕ). cond (p at) l []) (sym (take_all (length s - at) (drop at s) (omega (arith, length-drop at s))))
-
-  pub kept_line : {e : ℕ} → Whole s at e → kept_text at ≡ cond (p at) (take (e + 1 - at) (drop at s)) [] ++ kept_text (e + 1)
+  pub kept-next : (n : ℕ) → NextLine s at n → kept_text at ≡ cond (p at) (line_text s at n) [] ++ kept_text n
   unfolding keep
-  kept_line {e} h =
-      ap (λ (xs : List Placed). joined_lines (keep p xs)) (placed-line s at h)
-      ∙ joined-front (p at) (ended (line_text s at h)) (keep p (placed_lines (e + 1) (split 10 (drop (e + 1) s))))
-      ∙ ap (λ (l : List ℕ). cond (p at) l [] ++ kept_text (e + 1)) (sym (whole-text s at h))
+  kept-next n h =
+      ap (λ (xs : List Placed). joined_lines (keep p xs)) h.line
+      ∙ joined-front (p at) (line_of (line_text s at n)) (keep p (placed_lines n (split 10 (drop n s))))
 
 -- how long the first lines are
 abbrev pub first_long : ℕ → List TextLine → ℕ
@@ -81,20 +54,15 @@ first_more : (n : ℕ) (l : TextLine) (ls : List TextLine) → first_long (suc n
 unfolding joined_lines
 first_more n l ls = length-append l.text (joined_lines (take n ls))
 
-module _ (s : List ℕ) (at : ℕ) where
-  pub first-end : (n : ℕ) → line_at s at ≡ Nothing → first_long n (lines_in (split 10 (drop at s))) ≡ 0
-  first-end n h = ap (first_long n) (lines_none s at h) ∙ first-none n
+pub first-nothing : (s : List ℕ) (at n : ℕ) → placed_lines at (split 10 (drop at s)) ≡ []
+    → first_long n (lines_in (split 10 (drop at s))) ≡ 0
+first-nothing s at n h = ap (first_long n) (lines-nothing s at h) ∙ first-none n
 
-  pub first-open : (n k : ℕ) → n ≡ suc k → line_at s at ≡ Open → first_long n (lines_in (split 10 (drop at s))) ≡ length s - at
-  first-open n k e h =
-      ap₂ first_long e (lines-open s at h) ∙ first_more k (unended (drop at s)) []
-      ∙ (let z : length (drop at s) + first_long k [] ≡ length s - at = omega (arith, first-none k, length-drop at s) in z)
-
-  pub first-line : (n k : ℕ) {e : ℕ} → n ≡ suc k → Whole s at e
-      → first_long n (lines_in (split 10 (drop at s))) ≡ e + 1 - at + first_long k (lines_in (split 10 (drop (e + 1) s)))
-  first-line n k {e} g h =
-      ap₂ first_long g (lines-line s at h) ∙ first_more k (ended (line_text s at h)) (lines_in (split 10 (drop (e + 1) s)))
-      ∙ ap (λ (x : ℕ). x + first_long k (lines_in (split 10 (drop (e + 1) s)))) (long-line s at h)
+pub first-next : (s : List ℕ) (at next n k : ℕ) → n ≡ suc k → NextLine s at next
+    → first_long n (lines_in (split 10 (drop at s))) ≡ next - at + first_long k (lines_in (split 10 (drop next s)))
+first-next s at next n k e h =
+    ap₂ first_long e (lines-next s at next h) ∙ first_more k (line_of (line_text s at next)) (lines_in (split 10 (drop next s)))
+    ∙ ap (λ (x : ℕ). x + first_long k (lines_in (split 10 (drop next s)))) (length-next s at next h)
 
 -- nothing is put
 pub put-nothing : (l : List ℕ) (at : ℕ) → Tried l at [] at l

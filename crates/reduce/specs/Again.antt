@@ -3,7 +3,7 @@
 -- Assumes nothing.
 use Rattle.std.specs.Prelude.{◌≡◌, Bool, true, false, ◌||◌, List, [], ◌∷◌, ◌++◌, ◌⊎◌, ℕ, ◌<◌, length, take, replicate}
 use Rattle.text.specs.Read.{split}
-use Rattle.node.specs.declared.Answer.{Answer}
+use Rattle.node.specs.Answers.{Answer}
 use Rattle.site.specs.Answers.{area_size}
 use Rattle.script.specs.load.Opening.{Reading, refused, got, Opening, opening, config_read, lines_start}
 use Rattle.desk.specs.listing.Rows.{first_head, refusal_line}

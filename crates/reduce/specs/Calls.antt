@@ -3,17 +3,16 @@
 -- Refused as 15, whatever the number: a script above the limit, and an output that could not hold the script. As 18: the whole script does
 -- not give the number.
 -- Assumes nothing.
-use Rattle.std.specs.Prelude.{◌≡◌, Bool, cond, ◌||◌, List, [], ◌++◌, ℕ, ◌≤◌, ltb, length, take, drop, replicate}
+use Rattle.std.specs.Prelude.{◌≡◌, Bool, cond, ◌||◌, List, [], ◌++◌, ℕ, ◌≤◌, ltb, length, take, drop, replicate, Result, Ok, Err}
 use Rattle.text.specs.Read.{split}
-use Rattle.node.specs.Answers.{number}
-use Rattle.node.specs.declared.Answer.{Answer}
-use Rattle.node.specs.declared.Answer.TheVariants.{Done, NoRoom, NotGiven}
+use Rattle.node.specs.Answers.{Answer}
+use Rattle.node.specs.Answers.{Done, NoRoom, NotGiven}
+use Rattle.node.specs.declared.Refusal.{Refusal}
 use Rattle.site.specs.Answers.{area_size}
 use Rattle.machine.specs.timed.Calls.{TimedState}
 use Rattle.script.specs.load.Opening.{Reading, refused, got, Opening, opening, lines_start}
 use Rattle.desk.specs.listings.Output.{top_script, loaded_state}
 use Rattle.reduce.specs.Reduced.{lines_in, joined_lines, TextLine, is_refusal, gives, Reduced}
-use Rattle.reduce.specs.declared.Reduction.{Reduction}
 
 -- the state in which the events begin
 abbrev pub start_state : Opening → TimedState
@@ -21,7 +20,7 @@ start_state o = loaded_state 1 [] o (replicate area_size 0)
 
 -- whether a script gives the number: by a line before the events, which is then its last, or by an event line
 abbrev pub gives_in : ℕ → Reading Opening → Bool
-gives_in a (refused n x) = is_refusal a x
+gives_in a (refused n x) = is_refusal a (Err x)
 gives_in a (got o ls) = gives a (start_state o) (lines_in ls)
 
 -- what is kept of a script that opens, as bytes: its settings, table and names, and the event lines of a reduction
@@ -43,17 +42,25 @@ unfit_script s out = ltb top_script (length s) || ltb (length out) (length s)
 unfoldable pub reply_to : ℕ → List ℕ → List ℕ → Answer
 reply_to a s out = cond (unfit_script s out) NoRoom (cond (gives_in a (opening (split 10 s))) Done NotGiven)
 
--- an answer with the length of what was written: what that is, and that every byte behind it is as it was. After a refusal the length is 0,
--- so that no byte is changed.
-pub record Answers (a : ℕ) (s out : List ℕ) (r : Reduction) (after : List ℕ) : Type 0 where
-  pub reply : r.reply ≡ reply_to a s out
-  pub script : r.reply ≡ Done → Keeps a s (take r.length after) (opening (split 10 s))
-  pub within : r.length ≤ length s
-  pub behind : drop r.length after ≡ drop r.length out
-  pub none : (r.reply ≡ Done → ⊥) → r.length ≡ 0
+-- an answer without the length of what was written, and the length; after a refusal it is 0
+abbrev pub reply_of : Result ℕ Refusal → Answer
+reply_of (Ok n) = Done
+reply_of (Err x) = Err x
 
--- the call for C: the answer's number, and the number that the length is written to, which was n and stays after a refusal
-pub record Returns (a : ℕ) (s out : List ℕ) (n code : ℕ) (after : List ℕ) (m : ℕ) : Type 0 where
-  pub answer : code ≡ number (reply_to a s out)
-  pub done : code ≡ 0 → Answers a s out (record { reply = Done; length = m }) after
-  pub refused : (code ≡ 0 → ⊥) → (after ≡ out) × (m ≡ n)
+abbrev pub length_of : Result ℕ Refusal → ℕ
+length_of (Ok n) = n
+length_of (Err x) = 0
+
+-- an answer with the length of what was written: what that is, and that every byte behind it is as it was. After a refusal no byte is
+-- changed.
+pub record Answers (a : ℕ) (s out : List ℕ) (r : Result ℕ Refusal) (after : List ℕ) : Type 0 where
+  pub reply : reply_of r ≡ reply_to a s out
+  pub script : reply_of r ≡ Done → Keeps a s (take (length_of r) after) (opening (split 10 s))
+  pub within : length_of r ≤ length s
+  pub behind : drop (length_of r) after ≡ drop (length_of r) out
+
+-- the call for C: the answer, and the number that the length is written to, which was n and stays after a refusal
+pub record Returns (a : ℕ) (s out : List ℕ) (n : ℕ) (x : Answer) (after : List ℕ) (m : ℕ) : Type 0 where
+  pub answer : x ≡ reply_to a s out
+  pub done : x ≡ Done → Answers a s out (Ok m) after
+  pub refused : (x ≡ Done → ⊥) → (after ≡ out) × (m ≡ n)

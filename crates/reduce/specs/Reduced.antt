@@ -3,23 +3,23 @@
 -- Assumes nothing.
 use Rattle.std.specs.Prelude.{◌≡◌, Bool, true, false, ◌&&◌, ◌||◌, ◌⊎◌, List, [], ◌∷◌, ◌++◌, ℕ, zero, suc, ◌<◌, eqb, ltb, length}
 use Rattle.node.specs.Answers.{number}
-use Rattle.node.specs.declared.Answer.{Answer}
+use Rattle.node.specs.Answers.{Answer}
 use Rattle.machine.specs.timed.Calls.{TimedState}
 use Rattle.script.specs.events.Events.{event_of}
-use Rattle.script.specs.declared.Parsed.{Parsed}
-use Rattle.script.specs.declared.Parsed.TheVariants.{Malformed}
+use Rattle.site.specs.declared.Event.{Event}
+use Rattle.std.specs.Prelude.{Option, None}
 use Rattle.desk.specs.listings.Output.{line_answer, line_after}
 
 -- a line: its bytes, with the byte 10 that ends it, and what it says as an event; without that byte it is malformed
 pub record TextLine : Type 0 where
   pub text : List ℕ
-  pub says : Parsed
+  pub says : Option Event
 
 abbrev pub ended : List ℕ → TextLine
 ended l = record { text = l ++ (10 ∷ []); says = event_of l }
 
 abbrev pub unended : List ℕ → TextLine
-unended l = record { text = l; says = Malformed }
+unended l = record { text = l; says = None }
 
 -- behind the last byte 10: nothing, or a line without it
 abbrev pub last_line : List ℕ → List TextLine

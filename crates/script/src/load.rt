@@ -1,206 +1,155 @@
 // The lines of a script before its events: settings and table.
-ghost use Rattle.std.specs.Prelude.{◌≡◌, ◌≤◌, ◌<◌, length, drop};
+ghost use Rattle.std.specs.Prelude.{◌≡◌, true, ◌+◌, ◌≤◌, ◌<◌, length, drop, IfOk, MatchResult};
 ghost use Rattle.text.specs.Read.{split};
-ghost use Rattle.script.specs.load.Opening.{names_line, config_of_five, settings_line, config_of, config_read, row_stored, empty_table};
-ghost use Rattle.script.specs.load.Opening.{opening};
-ghost use Rattle.script.specs.load.Opening.{refused_at, script_head_of, read_back};
-ghost use Rattle.script.specs.load.Inner.{Reads, behind_names, place_in, found_row, from_events, from_rows, from_table, from_settings};
+ghost use Rattle.node.specs.Figures.{no_config, config_ok};
+ghost use Rattle.script.specs.declared.Line.TheVariants.{Ended};
+ghost use Rattle.script.specs.lines.Lines.{line_at};
+ghost use Rattle.script.specs.lines.Fields.{numbers_of};
+ghost use Rattle.script.specs.load.Opening.{settings_line, config_read, empty_table, table_lines, opening};
+ghost use Rattle.script.specs.load.Opening.{script_head_of, read_back};
+ghost use Rattle.script.specs.load.Inner.{Gives, Stops, name_line, any_line, good_config, found_row};
 
-use crate::{Five, Found, Four, Line, Next, ScriptHead};
-use node::{Answer, Config};
+use crate::{Line, Opened, RefusedHead};
+use node::{Config, Refusal};
 use site::{Row, Table};
 
-// A line of names, compared byte by byte.
-fn names_line(s: &[u8], at: usize, names: &[u8]) -> Next
-    ensures result_value { behind_names s.now result ≡ names_line 0 names.now tt (split 10 (drop at s.now)) }
-    ensures within { place_in result ≤ length s.now }
+// Where the byte 10 of a line stands. A line without it is refused as the caller says; a refusal tells the line's number and the figures
+// read so far.
+fn ended_line(
+    s: &[u8],
+    at: usize,
+    unended: Refusal,
+    line: u32,
+    config: Config,
+) -> Result<usize, RefusedHead>
+    ensures line { MatchResult result (λ e. line_at s.now at ≡ Ended e)
+        (Stops config (any_line line unended (split 10 (drop at s.now)))) }
+    ensures within { IfOk result (λ e. (at ≤ e) × (e < length s.now)) }
 {
-    let l = crate::lines::next_line(s, at);
-    match l {
-        Line::Nothing => Next::Wrong,
-        Line::Open => Next::Wrong,
-        Line::Ended(e) => {
-            if lists::equal(&s[at..e], names) {
-                return Next::At(e + 1);
-            }
-            Next::Wrong
-        }
-    }
+    let refusal = match crate::lines::next_line(s, at) {
+        Line::Nothing => Refusal::BadNames,
+        Line::Open => unended,
+        Line::Ended(e) => return Ok(e),
+    };
+    Err(RefusedHead {
+        refusal,
+        line,
+        config,
+    })
 }
 
-fn empty_table() -> Table
-    ensures { result ≡ empty_table }
+// A line of names, compared byte by byte: where the line behind it starts.
+fn names_line(
+    s: &[u8],
+    at: usize,
+    names: &[u8],
+    line: u32,
+    config: Config,
+) -> Result<usize, RefusedHead>
+    ensures { MatchResult result (Gives s.now (name_line line names.now (split 10 (drop at s.now))) tt)
+        (Stops config (name_line line names.now (split 10 (drop at s.now)))) }
 {
-    let r = Row {
+    let e = ended_line(s, at, Refusal::BadNames, line, config)?;
+    if lists::equal(&s[at..e], names) {
+        return Ok(e + 1);
+    }
+    Err(RefusedHead {
+        refusal: Refusal::BadNames,
+        line,
+        config,
+    })
+}
+
+// The figures in a line, where they are good.
+fn config_in(line: &[u8]) -> Option<Config>
+    ensures { result ≡ good_config (numbers_of 5 (split 32 line.now)) }
+{
+    let [nodes, slots, rounds, min_heard, split] = crate::lines::numbers::<5>(line)?;
+    let config = Config {
+        nodes,
+        slots,
+        rounds,
+        min_heard,
+        split,
+    };
+    config.config_ok().then_some(config)
+}
+
+// The settings, and where the line behind them starts.
+fn settings(s: &[u8], at: usize) -> Result<(Config, usize), RefusedHead>
+    ensures line { MatchResult result (λ r. Gives s.now (settings_line 2 (split 10 (drop at s.now))) r.0 r.1)
+        (Stops no_config (settings_line 2 (split 10 (drop at s.now)))) }
+    ensures good { IfOk result (λ r. config_ok r.0 ≡ true) }
+{
+    let none = Config::none();
+    let e = ended_line(s, at, Refusal::OutOfRange, 2, none)?;
+    let Some(config) = config_in(&s[at..e]) else {
+        return Err(RefusedHead {
+            refusal: Refusal::OutOfRange,
+            line: 2,
+            config: none,
+        });
+    };
+    Ok((config, e + 1))
+}
+
+// The row of the node at index i, from its line.
+fn row_in(config: Config, i: u32, line: &[u8]) -> Option<Row>
+    requires { i < 32 }
+    ensures { result ≡ found_row config i (numbers_of 4 (split 32 line.now)) }
+{
+    let [node, version, flags, want] = crate::lines::numbers::<4>(line)?;
+    let row = Row {
+        version,
+        flags,
+        want: u8::try_from(want).ok()?,
+    };
+    let good = node == i + 1 && row.want <= allotment::TOP_REQUEST && site::row_ok(config, i, row);
+    good.then_some(row)
+}
+
+// The rows of the table, and where the line behind them starts.
+fn rows(s: &[u8], from: usize, config: Config) -> Result<(Table, usize), RefusedHead>
+    requires { (config.nodes ≤ 32) × (from ≤ length s.now) }
+    ensures { MatchResult result (λ r. Gives s.now (table_lines config config.nodes 0 4 empty_table (split 10 (drop from s.now))) r.0 r.1)
+        (Stops config (table_lines config config.nodes 0 4 empty_table (split 10 (drop from s.now)))) }
+{
+    let none = Row {
         version: 0,
         flags: 0,
         want: 0,
     };
-    Table { rows: [r; 32] }
-}
-
-// A refusal of a line, with the figures read before it.
-fn refuse(line: u32, answer: Answer, config: Config) -> ScriptHead
-    ensures { result ≡ refused_at line answer config }
-{
-    let table = empty_table();
-    ScriptHead {
-        answer,
-        line,
-        at: 0,
-        config,
-        table,
-    }
-}
-
-fn config_in(x: Five) -> Config
-    ensures { result ≡ config_of_five x }
-{
-    match x {
-        Five::NotFive => Config::none(),
-        Five::Quint(nodes, slots, rounds, heard, split) => Config {
-            nodes,
-            slots,
-            rounds,
-            min_heard: heard,
-            split,
-        },
-    }
-}
-
-// The row of the node at index i, from its four numbers.
-fn read_row(f: Config, i: u32, x: Four) -> Found
-    requires { i < 32 }
-    ensures { result ≡ found_row f i x }
-{
-    match x {
-        Four::NotFour => Found::Bad,
-        Four::Quad(node, version, flags, want) => {
-            if node != i + 1 {
-                return Found::Bad;
-            }
-            if (allotment::TOP_REQUEST as u32) < want {
-                return Found::Bad;
-            }
-            let row = Row {
-                version,
-                flags,
-                want: want as u8,
-            };
-            if site::row_ok(f, i, row) {
-                return Found::Good(row);
-            }
-            Found::Bad
-        }
-    }
-}
-
-fn store(mut t: Table, i: u32, r: Row) -> Table
-    requires { i < 32 }
-    ensures { result ≡ row_stored t i r }
-{
-    let k = i as usize;
-    t.rows[k] = r;
-    t
-}
-
-// The names of the events.
-fn from_events(s: &[u8], at: usize, f: Config, t: Table) -> ScriptHead
-    requires { f.nodes ≤ 32 }
-    ensures { Reads s.now f result (from_events f t (split 10 (drop at s.now))) }
-{
-    let n = names_line(s, at, b"event node with");
-    match n {
-        Next::Wrong => refuse(4 + f.nodes, Answer::BadNames, f),
-        Next::At(i) => ScriptHead {
-            answer: Answer::Done,
-            line: 0,
-            at: i,
-            config: f,
-            table: t,
-        },
-    }
-}
-
-// The rows of the table, and what follows.
-fn from_rows(s: &[u8], from: usize, f: Config) -> ScriptHead
-    requires { f.nodes ≤ 32 }
-    ensures { Reads s.now f result (from_rows f (split 10 (drop from s.now))) }
-{
-    let mut t = empty_table();
+    let mut rows = [none; 32];
     let mut at = from;
-    let n = f.nodes;
-    let mut i: u32 = 0;
-    while i < n {
-        let l = crate::lines::next_line(s, at);
-        match l {
-            Line::Nothing => {
-                return refuse(4 + i, Answer::BadNames, f);
-            }
-            Line::Open => {
-                return refuse(4 + i, Answer::OutOfRange, f);
-            }
-            Line::Ended(e) => {
-                let r = read_row(f, i, crate::lines::four_numbers(&s[at..e]));
-                match r {
-                    Found::Bad => {
-                        return refuse(4 + i, Answer::OutOfRange, f);
-                    }
-                    Found::Good(row) => {
-                        t = store(t, i, row);
-                    }
-                }
-                at = e + 1;
-            }
-        }
-        i += 1;
+    for i in 0..config.nodes {
+        let line = 4 + i;
+        let e = ended_line(s, at, Refusal::OutOfRange, line, config)?;
+        let Some(row) = row_in(config, i, &s[at..e]) else {
+            return Err(RefusedHead {
+                refusal: Refusal::OutOfRange,
+                line,
+                config,
+            });
+        };
+        rows[i as usize] = row;
+        at = e + 1;
     }
-    from_events(s, at, f, t)
+    Ok((Table { rows }, at))
 }
 
-// The names of the table, and what follows.
-fn from_table(s: &[u8], at: usize, f: Config) -> ScriptHead
-    requires { f.nodes ≤ 32 }
-    ensures { Reads s.now f result (from_table f (split 10 (drop at s.now))) }
-{
-    let n = names_line(s, at, b"node version flags want");
-    match n {
-        Next::Wrong => refuse(3, Answer::BadNames, f),
-        Next::At(i) => from_rows(s, i, f),
-    }
-}
-
-// The settings, and what follows.
-fn from_settings(s: &[u8], at: usize) -> ScriptHead
-    ensures { Reads s.now (config_of (settings_line 2 (split 10 (drop at s.now)))) result
-        (from_settings (split 10 (drop at s.now))) }
-{
-    let l = crate::lines::next_line(s, at);
-    match l {
-        Line::Nothing => refuse(2, Answer::BadNames, Config::none()),
-        Line::Open => refuse(2, Answer::OutOfRange, Config::none()),
-        Line::Ended(e) => {
-            let f = config_in(crate::lines::five_numbers(&s[at..e]));
-            if f.config_ok() {
-                return from_table(s, e + 1, f);
-            }
-            refuse(2, Answer::OutOfRange, Config::none())
-        }
-    }
-}
-
-// Settings, table, and the names of the events: an answer, and where the event lines start. A refusal keeps the settings that were
-// accepted before it. The first clause says every field for every script; the second, that the lines from the answer's place on are those
-// that the opening leaves.
-pub fn open(script: &[u8]) -> ScriptHead
+// Settings, table, and the names of the events: where the event lines start; or a refusal with the settings that were accepted before it.
+// The first clause says every field for every script; the second, that the lines from the place on are those that the opening leaves.
+pub fn open(script: &[u8]) -> Result<Opened, RefusedHead>
     ensures value { result ≡ script_head_of script.now (config_read (split 10 script.now))
         (opening (split 10 script.now)) }
     ensures lines { read_back script.now result ≡ opening (split 10 script.now) }
-    ensures within { result.at ≤ length script.now }
+    ensures within { IfOk result (λ o. o.at ≤ length script.now) }
 {
-    let n = names_line(script, 0, b"nodes slots rounds heard split");
-    match n {
-        Next::Wrong => refuse(1, Answer::BadNames, Config::none()),
-        Next::At(i) => from_settings(script, i),
-    }
+    let names = b"nodes slots rounds heard split";
+    let a = names_line(script, 0, names, 1, Config::none())?;
+    let (config, b) = settings(script, a)?;
+    let c = names_line(script, b, b"node version flags want", 3, config)?;
+    let (table, d) = rows(script, c, config)?;
+    let at = names_line(script, d, b"event node with", 4 + config.nodes, config)?;
+    Ok(Opened { at, config, table })
 }

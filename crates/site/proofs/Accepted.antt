@@ -3,9 +3,9 @@
 use mathlib.Core.Path.{◌≡◌, refl, sym, ap, ◌∙◌}
 use mathlib.Core.Bool.{Bool, true, false, not, cond, ◌&&◌, ◌||◌}
 use mathlib.Core.List.{List}
-use Prim.Native.Nat.{ℕ, ◌+◌, ◌-◌, ◌≤◌, ◌<◌}
+use Prim.Native.Nat.{ℕ, ◌+◌, ◌≤◌, ◌<◌}
 use native.Mathlib.Omega.{arith}
-use borrow.Author.Tests.{leb-true, leb-false, lt-leb, ltb-false, not-false, le-leb}
+use borrow.Author.Tests.{leb-true, leb-false, lt-leb, ltb-false, not-false}
 use lib.Dec.{ltb, leb}
 use lib.ListN.{length, get_or}
 use Rattle.words.proofs.Tests.{or-neither, and_left, and_right}
@@ -15,10 +15,9 @@ use Rattle.node.specs.Figures.{config_ok, flags_ok, sending}
 use Rattle.node.specs.Negotiation.{hear_answer}
 use Rattle.node.specs.Distribution.{take_answer}
 use Rattle.node.specs.Begin.{start_answer}
-use Rattle.node.specs.declared.Answer.{Answer}
-use Rattle.node.specs.declared.Answer.TheVariants.{Done, OutOfRange, NoSuchNode, WrongPhase, NotLive, NotDown, TooManyPackets}
-use Rattle.node.specs.declared.Answer.TheVariants.{NoSuchPacket, WrongSender, NoRoom}
-use Rattle.range.proofs.Ranges.{Setting, setting}
+use Rattle.node.specs.Answers.{Answer}
+use Rattle.node.specs.Answers.{Done, OutOfRange, NoSuchNode, WrongPhase, NotLive, NotDown, TooManyPackets}
+use Rattle.node.specs.Answers.{NoSuchPacket, WrongSender, NoRoom}
 use Rattle.node.proofs.Answers.{done-is, test-met, test-passed, both-done}
 use Rattle.wire.specs.Layout.{packet_in}
 use Rattle.wire.specs.Reads.{packet_answer}

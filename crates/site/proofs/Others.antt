@@ -13,8 +13,8 @@ use Rattle.words.proofs.Tests.{never, past-test, and_left, and_right}
 use Rattle.node.specs.Answers.{is_done, number}
 use Rattle.node.specs.Figures.{negotiates}
 use Rattle.node.specs.Negotiation.{send_answer}
-use Rattle.node.specs.declared.Answer.{Answer}
-use Rattle.node.specs.declared.Answer.TheVariants.{Done, NoSuchNode, WrongPhase, NotLive, TooManyPackets}
+use Rattle.node.specs.Answers.{Answer}
+use Rattle.node.specs.Answers.{Done, NoSuchNode, WrongPhase, NotLive, TooManyPackets}
 use Rattle.node.proofs.Answers.{done-is}
 use Rattle.node.proofs.Bare.{send-phase}
 use Rattle.site.specs.Counts.{top_sent, sent_of, one_more}

@@ -12,8 +12,8 @@ use Rattle.node.specs.Negotiation.{heard_node}
 use Rattle.node.specs.Close.{closed_node}
 use Rattle.node.specs.End.{ended_node}
 use Rattle.node.specs.declared.Packet.{Packet}
-use Rattle.node.specs.declared.Answer.{Answer}
-use Rattle.node.specs.declared.Answer.TheVariants.{Done}
+use Rattle.node.specs.Answers.{Answer}
+use Rattle.node.specs.Answers.{Done}
 use Rattle.node.proofs.Laws.{close-is, end_is}
 use Rattle.wire.specs.Layout.{packet_in}
 use Rattle.site.specs.Members.{nobody, header_of, member_at, is_live, with_node, put}

@@ -6,9 +6,9 @@ use Rattle.node.specs.Answers.{is_done}
 use Rattle.node.specs.Figures.{flags_ok, sending}
 use Rattle.node.specs.Negotiation.{send_answer, hear_answer}
 use Rattle.node.specs.Distribution.{take_answer}
-use Rattle.node.specs.declared.Answer.{Answer}
-use Rattle.node.specs.declared.Answer.TheVariants.{Done, OutOfRange, NoSuchNode, WrongPhase, NotLive, NotDown, TooManyPackets}
-use Rattle.node.specs.declared.Answer.TheVariants.{NoSuchPacket, WrongSender, NoRoom}
+use Rattle.node.specs.Answers.{Answer}
+use Rattle.node.specs.Answers.{Done, OutOfRange, NoSuchNode, WrongPhase, NotLive, NotDown, TooManyPackets}
+use Rattle.node.specs.Answers.{NoSuchPacket, WrongSender, NoRoom}
 use Rattle.wire.specs.Layout.{packet_in}
 use Rattle.wire.specs.Reads.{packet_answer}
 use Rattle.site.specs.Counts.{top_sent, sent_of, packets}

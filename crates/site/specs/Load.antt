@@ -5,8 +5,8 @@ use Rattle.lists.specs.All.{all_below, tab}
 use Rattle.node.specs.Answers.{is_done}
 use Rattle.node.specs.Figures.{config_ok}
 use Rattle.node.specs.Begin.{starting, start_answer}
-use Rattle.node.specs.declared.Answer.{Answer}
-use Rattle.node.specs.declared.Answer.TheVariants.{Done, OutOfRange}
+use Rattle.node.specs.Answers.{Answer}
+use Rattle.node.specs.Answers.{Done, OutOfRange}
 use Rattle.site.specs.Counts.{none_sent}
 use Rattle.site.specs.Members.{setup_of, down_member}
 use Rattle.node.specs.declared.Config.{Config}

@@ -8,31 +8,13 @@ use crate::Event;
 pub fn is_close(e: Event) -> bool
     ensures { result ≡ is_close e }
 {
-    match e {
-        Event::Send(_) => false,
-        Event::Hear(_, _) => false,
-        Event::Close => true,
-        Event::Take(_, _) => false,
-        Event::End => false,
-        Event::Want(_, _) => false,
-        Event::Crash(_) => false,
-        Event::Restart(_, _) => false,
-    }
+    e == Event::Close
 }
 
 pub fn is_end(e: Event) -> bool
     ensures { result ≡ is_end e }
 {
-    match e {
-        Event::Send(_) => false,
-        Event::Hear(_, _) => false,
-        Event::Close => false,
-        Event::Take(_, _) => false,
-        Event::End => true,
-        Event::Want(_, _) => false,
-        Event::Crash(_) => false,
-        Event::Restart(_, _) => false,
-    }
+    e == Event::End
 }
 
 // Where the member of number j stands; the first stands in for a number of none.
@@ -40,8 +22,9 @@ pub fn node_index(j: u32) -> usize
     ensures value { result ≡ node_index j }
     ensures within { result < 32 }
 {
-    if 32 < j {
-        return 0;
+    if j <= 32 {
+        membership::requests::index_of(j)
+    } else {
+        0
     }
-    membership::requests::index_of(j)
 }

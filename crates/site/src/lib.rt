@@ -8,7 +8,7 @@ mod events;
 mod looks;
 
 pub use events::{is_close, is_end, node_index};
-use node::{Answer, Config, Setup};
+use node::{Answer, Config, Refusal, Setup};
 
 // A row of the table.
 #[derive(Clone, Copy)]
@@ -24,7 +24,7 @@ pub struct Table {
 }
 
 // What the listing says of a node.
-#[derive(Clone, Copy)]
+#[derive(Clone, Copy, PartialEq, Eq)]
 pub enum State {
     Live,
     Waiting,
@@ -41,7 +41,7 @@ pub struct SiteHeader {
 }
 
 // The eight events with their values, in or out of range.
-#[derive(Clone, Copy)]
+#[derive(Clone, Copy, PartialEq, Eq)]
 pub enum Event {
     Send(u32),
     Hear(u32, u32),
@@ -54,6 +54,7 @@ pub enum Event {
 }
 
 // Whether a row is good for the node at an index.
+#[tactic(auto, unfolding(crate::specs::Load::row_ok))]
 pub fn row_ok(f: Config, i: u32, row: Row) -> bool
     ensures { result ≡ row_ok f i row }
 {
@@ -64,7 +65,8 @@ pub fn row_ok(f: Config, i: u32, row: Row) -> bool
         node: i + 1,
         config: f,
     };
-    node::is_done(s.start_answer(row.version, row.flags, row.want as u32))
+    s.start_answer(row.version, row.flags, u32::from(row.want))
+        .is_ok()
 }
 
 // Whether each of the N rows is good.
@@ -73,22 +75,22 @@ pub fn table_ok(f: Config, t: Table) -> bool
 {
     let rows = t.rows;
     let mut ok = true;
-    for i in 0..32usize {
-        let row = rows[i];
-        let one = (f.nodes <= i as u32) | row_ok(f, i as u32, row);
-        ok = ok & one;
+    for (i, row) in rows.iter().enumerate() {
+        ok &= (f.nodes <= i as u32) | row_ok(f, i as u32, *row);
     }
     ok
 }
 
 // The answer to the loading of a site from its figures and table.
+#[tactic(auto, unfolding(crate::specs::Load::load_answer))]
 pub fn load_answer(f: Config, t: Table) -> Answer
     ensures { result ≡ load_answer f t }
 {
     if f.config_ok() & table_ok(f, t) {
-        return Answer::Done;
+        Ok(())
+    } else {
+        Err(Refusal::OutOfRange)
     }
-    Answer::OutOfRange
 }
 
 impl SiteHeader {

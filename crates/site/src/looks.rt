@@ -19,8 +19,7 @@ impl SiteHeader {
     pub fn is_full(self, j: u32) -> bool
         ensures { result ≡ is_full self j }
     {
-        let sent = self.sent;
-        SiteHeader::SENT <= membership::requests::entry_of(sent, j)
+        SiteHeader::SENT <= membership::requests::entry_of(self.sent, j)
     }
 
     // The packets of this phase, all nodes together.
@@ -28,9 +27,9 @@ impl SiteHeader {
         ensures { result ≡ packets self.sent }
     {
         let sent = self.sent;
-        let mut n: u32 = 0;
-        for i in 0..32usize {
-            n = n + sent[i] as u32;
+        let mut n = 0;
+        for x in &sent {
+            n += u32::from(*x);
         }
         n
     }

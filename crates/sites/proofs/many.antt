@@ -6,4 +6,3 @@ pub mod Hears
 pub mod Events
 pub mod Groups
 pub mod Lines
-pub mod Seen

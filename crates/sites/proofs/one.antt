@@ -1,4 +1,3 @@
 -- C calls on a site in lent memory.
 pub mod Laws
 pub mod Days
-pub mod Seen

@@ -1,18 +1,18 @@
 // The memory of one site: its storage, with its day in the two words behind those of the storage.
-ghost use Rattle.std.specs.Prelude.{◌≡◌, ◌≤◌, length, []};
-ghost use Rattle.script.specs.declared.Parsed.TheVariants.{Malformed, Good};
+ghost use Rattle.std.specs.Prelude.{◌≡◌, false, ◌≤◌, length, cond, Some};
+ghost use Rattle.node.specs.Answers.{OutOfRange, NoRoom};
+ghost use Rattle.machine.specs.combined.Stored.{lent_too_short};
 ghost use Rattle.machine.specs.Layout.{store};
-ghost use Rattle.windows.specs.Copies.{windows_in};
 ghost use Rattle.sites.specs.one.Memory.{memory_size, memory_too_short, day_in, day_put, timed_of, kept_of};
-ghost use Rattle.sites.specs.one.Calls.{loading_of, after_load, timed_after_load, after_event, kept_after_event, report_after_event};
-ghost use Rattle.sites.specs.one.Calls.{event_tallied};
+ghost use Rattle.sites.specs.one.Calls.{loading_of, after_load, timed_after_load};
+ghost use Rattle.sites.specs.one.Calls.{site_event_answer, after_event, kept_after_event, report_after_event};
 
-use crate::Tallied;
 use crate::one::table_of;
 use machine::{BYTES, Day};
-use node::{Answer, Config};
+use node::{Answer, Config, Refusal};
 use site::Event;
 use tally::Tally;
+use windows::Window;
 
 // Where the epochs of the day stand, and which of them it is; how many words that makes.
 const DAY: usize = 262;
@@ -55,89 +55,66 @@ pub(crate) fn load(
     f: Config,
     rows: &[u32],
     length: u32,
-    w: &[u32],
+    w: &[Window],
 ) -> Answer
     ensures value { result ≡ loading_of (store words.old bytes.old) f rows.now length
-        (windows_in w.now) }
+        w.now }
     ensures words_after { words.new
-        ≡ (after_load (store words.old bytes.old) f rows.now length (windows_in w.now)).words }
+        ≡ (after_load (store words.old bytes.old) f rows.now length w.now).words }
     ensures bytes_after { bytes.new
-        ≡ (after_load (store words.old bytes.old) f rows.now length (windows_in w.now)).bytes }
-    ensures bytes_after_2 { timed_of (store words.new bytes.new)
-        ≡ timed_after_load (store words.old bytes.old) f rows.now length (windows_in w.now) }
+        ≡ (after_load (store words.old bytes.old) f rows.now length w.now).bytes }
+    ensures timed_after { timed_of (store words.new bytes.new)
+        ≡ timed_after_load (store words.old bytes.old) f rows.now length w.now }
 {
     if lacks(words, bytes) {
-        return Answer::NoRoom;
+        return Err(Refusal::NoRoom);
     }
     if rows.len() != 3 * (f.nodes as usize) {
-        return Answer::OutOfRange;
+        return Err(Refusal::OutOfRange);
     }
-    let r = machine::timed::load(words, bytes, f, table_of(rows), length, w);
-    let a = r.answer;
-    if !node::is_done(a) {
-        return a;
-    }
-    let d = r.day;
-    put_day(words, d);
-    a
+    let day = machine::timed::load(words, bytes, f, table_of(rows), length, w)?;
+    put_day(words, day);
+    Ok(())
 }
 
-// Three numbers that make no event.
-pub(crate) fn no_event(words: &[u32], bytes: &[u8], area: &[u8], out: &[u8], t: Tally) -> Tallied
-    ensures { result ≡ event_tallied (store words.now bytes.now) area.now [] t out.now
-        Malformed }
+// Three numbers that make no event, in memory that is long enough.
+pub(crate) fn no_event(words: &[u32], bytes: &[u8], area: &[u8], out: &[u8]) -> Answer
+    ensures { result ≡ cond (lent_too_short (store words.now bytes.now) area.now out.now) NoRoom OutOfRange }
 {
-    let short = lacks(words, bytes);
-    if short | machine::combined::too_few(words, bytes, area, out) {
-        return Tallied {
-            code: node::code(Answer::NoRoom),
-            tally: t,
-        };
+    if machine::combined::too_few(words, bytes, area, out) {
+        return Err(Refusal::NoRoom);
     }
-    Tallied {
-        code: node::code(Answer::OutOfRange),
-        tally: t,
-    }
+    Err(Refusal::OutOfRange)
 }
 
-// One event of the site in memory.
+// One event of the site in memory that is long enough.
 pub(crate) fn step(
     words: &mut [u32],
     bytes: &mut [u8],
     area: &mut [u8],
     out: &mut [u8],
     e: Event,
-    w: &[u32],
-    t: Tally,
-) -> Tallied
-    ensures value { result ≡ event_tallied (store words.old bytes.old) area.old (windows_in w.now) t
-        out.old (Good e) }
+    w: &[Window],
+    t: &mut Tally,
+) -> Answer
+    requires { memory_too_short (store words.old bytes.old) ≡ false }
+    ensures value { result ≡ site_event_answer (store words.old bytes.old) area.old w.now t.old
+        out.old (Some e) }
     ensures words_after { words.new
-        ≡ (after_event (store words.old bytes.old) area.old (windows_in w.now) t out.old
-        (Good e)).words }
+        ≡ (after_event (store words.old bytes.old) area.old w.now t.old out.old
+        (Some e)).words }
     ensures bytes_after { bytes.new
-        ≡ (after_event (store words.old bytes.old) area.old (windows_in w.now) t out.old
-        (Good e)).bytes }
+        ≡ (after_event (store words.old bytes.old) area.old w.now t.old out.old
+        (Some e)).bytes }
     ensures out_after { out.new
-        ≡ report_after_event (store words.old bytes.old) area.old (windows_in w.now) t
-        out.old (Good e) }
-    ensures tally_after { kept_of (store words.new bytes.new) area.new result.tally
-        ≡ kept_after_event (store words.old bytes.old) area.old (windows_in w.now) t
-        out.old (Good e) }
+        ≡ report_after_event (store words.old bytes.old) area.old w.now t.old
+        out.old (Some e) }
+    ensures kept_after { kept_of (store words.new bytes.new) area.new t.new
+        ≡ kept_after_event (store words.old bytes.old) area.old w.now t.old
+        out.old (Some e) }
 {
-    if lacks(words, bytes) {
-        return Tallied {
-            code: node::code(Answer::NoRoom),
-            tally: t,
-        };
-    }
-    let day = day_at(words);
-    let r = machine::combined::step(words, bytes, area, day, e, w, t, out);
-    let next = r.day;
-    let tally = r.tally;
-    put_day(words, next);
-    Tallied {
-        code: r.code,
-        tally,
-    }
+    let mut day = day_at(words);
+    let answer = machine::combined::step(words, bytes, area, &mut day, e, w, t, out);
+    put_day(words, day);
+    answer
 }

@@ -1,27 +1,24 @@
 // A site in lent memory for desk tools in C (include/hydra-desk.h), with windows, a tally of the slots held and the reports of closes: its
 // load, its events, and what a listing shows of a node.
-ghost use Rattle.std.specs.Prelude.{◌≡◌, false, [], ◌∷◌, min, ◌+◌, ◌≤◌, ◌<◌, length, get_or, replicate};
+ghost use Rattle.std.specs.Prelude.{◌≡◌, false, ◌∷◌, min, ◌+◌, ◌≤◌, ◌<◌, length, get_or, replicate};
 ghost use mir.Val.{bool_byte};
 ghost use Rattle.lists.specs.Bytes.{Put};
 ghost use Rattle.allotment.specs.Allotment.{top_request};
-ghost use Rattle.node.specs.Answers.{number};
 ghost use Rattle.machine.specs.Layout.{store};
 ghost use Rattle.machine.specs.Acts.{no_node_at};
 ghost use Rattle.machine.specs.Loading.{member_read};
-ghost use Rattle.windows.specs.Copies.{windows_in, list_of};
 ghost use Rattle.script.specs.events.Events.{event_at};
 ghost use Rattle.sites.specs.one.Memory.{timed_of, kept_of};
 ghost use Rattle.sites.specs.one.Calls.{config_from, row_from, table_from, loading_of, after_load, timed_after_load, tally_after_load};
-ghost use Rattle.sites.specs.one.Calls.{load_tallied, site_event_answer, after_event, kept_after_event, report_after_event, event_tallied};
+ghost use Rattle.sites.specs.one.Calls.{site_event_answer, after_event, kept_after_event, report_after_event};
 ghost use Rattle.sites.specs.one.Calls.{live_bytes, node_bytes, showing, out_node, showing_of, out_node_of};
 
-use crate::Tallied;
+use crate::memory;
 use machine::{BYTES, WORDS};
-use node::{Answer, Config};
-use script::Parsed;
+use node::{Answer, Config, Refusal};
 use site::{Row, Table};
 use tally::Tally;
-use windows::{Window, Windows};
+use windows::Window;
 
 // The bytes that show a node.
 pub const SHOWN: usize = 90;
@@ -30,17 +27,14 @@ pub const SHOWN: usize = 90;
 pub fn word_of(s: &[u32], i: usize) -> u32
     ensures { result ≡ get_or s.now i 0 }
 {
-    if i < s.len() { s[i] } else { 0 }
+    s.get(i).copied().unwrap_or(0)
 }
 
 // A want as a byte: for any above the top request stands the number after it.
 fn small_want(w: u32) -> u8
     ensures { result ≡ min w (top_request + 1) }
 {
-    if w <= allotment::TOP_REQUEST as u32 {
-        return w as u8;
-    }
-    allotment::TOP_REQUEST + 1
+    w.min(u32::from(allotment::TOP_REQUEST) + 1) as u8
 }
 
 // The row at an index of lent rows.
@@ -59,61 +53,8 @@ fn row_at(rows: &[u32], i: usize) -> Row
 pub fn table_of(lent: &[u32]) -> Table
     ensures { result ≡ table_from lent.now }
 {
-    let none = Row {
-        version: 0,
-        flags: 0,
-        want: 0,
-    };
-    let mut rows = [none; 32];
-    for i in 0..32usize {
-        rows[i] = row_at(lent, i);
-    }
-    Table { rows }
-}
-
-// A load with the tally by value.
-fn load_tallied(
-    words: &mut [u32],
-    bytes: &mut [u8],
-    nodes: u32,
-    slots: u32,
-    rounds: u32,
-    heard: u32,
-    split: u32,
-    rows: &[u32],
-    day: u32,
-    w: Windows,
-    t: Tally,
-) -> Tallied
-    ensures { (result ≡ load_tallied (store words.old bytes.old) (config_from nodes slots rounds heard split)
-        rows.now day (list_of w) t)
-        × (words.new ≡ (after_load (store words.old bytes.old) (config_from nodes slots rounds heard split)
-        rows.now day (list_of w)).words)
-        × (bytes.new ≡ (after_load (store words.old bytes.old) (config_from nodes slots rounds heard split)
-        rows.now day (list_of w)).bytes)
-        × (timed_of (store words.new bytes.new)
-        ≡ timed_after_load (store words.old bytes.old) (config_from nodes slots rounds heard split) rows.now
-        day (list_of w)) }
-{
-    let f = Config {
-        nodes,
-        slots,
-        rounds,
-        min_heard: heard,
-        split,
-    };
-    let list = w.list;
-    let n = w.used();
-    let a = crate::memory::load(words, bytes, f, rows, day, &list[..n]);
-    if node::is_done(a) {
-        return Tallied {
-            code: node::code(a),
-            tally: Tally::first(),
-        };
-    }
-    Tallied {
-        code: node::code(a),
-        tally: t,
+    Table {
+        rows: std::array::from_fn(|i| row_at(lent, i)),
     }
 }
 
@@ -130,116 +71,29 @@ pub fn hydra_site_load(
     day: u32,
     windows: &[Window],
     tally: &mut Tally,
-) -> u32
-    ensures { (result ≡ number (loading_of (store words.old bytes.old) (config_from nodes slots rounds heard split)
-        rows.now day windows.now))
-        × (words.new ≡ (after_load (store words.old bytes.old) (config_from nodes slots rounds heard split)
-        rows.now day windows.now).words)
-        × (bytes.new ≡ (after_load (store words.old bytes.old) (config_from nodes slots rounds heard split)
-        rows.now day windows.now).bytes)
-        × (timed_of (store words.new bytes.new)
+) -> Answer
+    ensures value { result ≡ loading_of (store words.old bytes.old) (config_from nodes slots rounds heard split)
+        rows.now day windows.now }
+    ensures words_after { words.new ≡ (after_load (store words.old bytes.old) (config_from nodes slots rounds heard split)
+        rows.now day windows.now).words }
+    ensures bytes_after { bytes.new ≡ (after_load (store words.old bytes.old) (config_from nodes slots rounds heard split)
+        rows.now day windows.now).bytes }
+    ensures timed_after { timed_of (store words.new bytes.new)
         ≡ timed_after_load (store words.old bytes.old) (config_from nodes slots rounds heard split) rows.now
-        day windows.now)
-        × (tally.new ≡ tally_after_load (store words.old bytes.old) (config_from nodes slots rounds heard split)
-        rows.now day windows.now tally.old) }
+        day windows.now }
+    ensures tally_after { tally.new ≡ tally_after_load (store words.old bytes.old) (config_from nodes slots rounds heard split)
+        rows.now day windows.now tally.old }
 {
-    let w = windows::copied(windows);
-    let v = *tally;
-    let r = load_tallied(
-        words, bytes, nodes, slots, rounds, heard, split, rows, day, w, v,
-    );
-    *tally = r.tally;
-    r.code
-}
-
-// One event, with windows in words and the tally by value.
-fn event_with(
-    words: &mut [u32],
-    bytes: &mut [u8],
-    area: &mut [u8],
-    out: &mut [u8],
-    event: u32,
-    node: u32,
-    with: u32,
-    w: &[u32],
-    t: Tally,
-) -> Tallied
-    ensures value { result ≡ event_tallied (store words.old bytes.old) area.old (windows_in w.now) t
-        out.old (event_at event node with) }
-    ensures words_after { words.new
-        ≡ (after_event (store words.old bytes.old) area.old (windows_in w.now) t out.old
-        (event_at event node with)).words }
-    ensures bytes_after { bytes.new
-        ≡ (after_event (store words.old bytes.old) area.old (windows_in w.now) t out.old
-        (event_at event node with)).bytes }
-    ensures out_after { out.new
-        ≡ report_after_event (store words.old bytes.old) area.old (windows_in w.now) t
-        out.old (event_at event node with) }
-    ensures tally_after { kept_of (store words.new bytes.new) area.new result.tally
-        ≡ kept_after_event (store words.old bytes.old) area.old (windows_in w.now) t
-        out.old (event_at event node with) }
-{
-    let p = script::events::event_at(event, node, with);
-    match p {
-        Parsed::Malformed => crate::memory::no_event(words, bytes, area, out, t),
-        Parsed::Good(e) => crate::memory::step(words, bytes, area, out, e, w, t),
-    }
-}
-
-// One event that is lent no windows: nothing is copied for them.
-fn event_plain(
-    words: &mut [u32],
-    bytes: &mut [u8],
-    area: &mut [u8],
-    out: &mut [u8],
-    event: u32,
-    node: u32,
-    with: u32,
-    t: Tally,
-) -> Tallied
-    ensures { (result ≡ event_tallied (store words.old bytes.old) area.old [] t out.old
-        (event_at event node with))
-        × (words.new ≡ (after_event (store words.old bytes.old) area.old [] t out.old
-        (event_at event node with)).words)
-        × (bytes.new ≡ (after_event (store words.old bytes.old) area.old [] t out.old
-        (event_at event node with)).bytes)
-        × (out.new ≡ report_after_event (store words.old bytes.old) area.old [] t out.old
-        (event_at event node with))
-        × (kept_of (store words.new bytes.new) area.new result.tally
-        ≡ kept_after_event (store words.old bytes.old) area.old [] t out.old
-        (event_at event node with)) }
-{
-    let none = [0u32; 1];
-    event_with(words, bytes, area, out, event, node, with, &none[..0], t)
-}
-
-// One event, with the copy of its windows.
-fn event_tallied(
-    words: &mut [u32],
-    bytes: &mut [u8],
-    area: &mut [u8],
-    out: &mut [u8],
-    event: u32,
-    node: u32,
-    with: u32,
-    w: Windows,
-    t: Tally,
-) -> Tallied
-    ensures { (result ≡ event_tallied (store words.old bytes.old) area.old (list_of w) t out.old
-        (event_at event node with))
-        × (words.new ≡ (after_event (store words.old bytes.old) area.old (list_of w) t
-        out.old (event_at event node with)).words)
-        × (bytes.new ≡ (after_event (store words.old bytes.old) area.old (list_of w) t
-        out.old (event_at event node with)).bytes)
-        × (out.new ≡ report_after_event (store words.old bytes.old) area.old (list_of w) t
-        out.old (event_at event node with))
-        × (kept_of (store words.new bytes.new) area.new result.tally
-        ≡ kept_after_event (store words.old bytes.old) area.old (list_of w) t out.old
-        (event_at event node with)) }
-{
-    let list = w.list;
-    let n = w.used();
-    event_with(words, bytes, area, out, event, node, with, &list[..n], t)
+    let f = Config {
+        nodes,
+        slots,
+        rounds,
+        min_heard: heard,
+        split,
+    };
+    memory::load(words, bytes, f, rows, day, windows)?;
+    *tally = Tally::first();
+    Ok(())
 }
 
 // One event: its number, its node, and what stands behind the node in a script. The report of an accepted close goes to the start of
@@ -254,30 +108,26 @@ pub fn hydra_site_event(
     windows: &[Window],
     tally: &mut Tally,
     reports: &mut [u8],
-) -> u32
-    ensures { (result ≡ number
-        (site_event_answer (store words.old bytes.old) area.old windows.now
-        tally.old reports.old (event_at event node with)))
-        × (words.new ≡ (after_event (store words.old bytes.old) area.old windows.now
-        tally.old reports.old (event_at event node with)).words)
-        × (bytes.new ≡ (after_event (store words.old bytes.old) area.old windows.now
-        tally.old reports.old (event_at event node with)).bytes)
-        × (reports.new ≡ report_after_event (store words.old bytes.old) area.old
-        windows.now tally.old reports.old (event_at event node with))
-        × (kept_of (store words.new bytes.new) area.new tally.new
+) -> Answer
+    ensures value { result ≡ site_event_answer (store words.old bytes.old) area.old windows.now
+        tally.old reports.old (event_at event node with) }
+    ensures words_after { words.new ≡ (after_event (store words.old bytes.old) area.old windows.now
+        tally.old reports.old (event_at event node with)).words }
+    ensures bytes_after { bytes.new ≡ (after_event (store words.old bytes.old) area.old windows.now
+        tally.old reports.old (event_at event node with)).bytes }
+    ensures reports_after { reports.new ≡ report_after_event (store words.old bytes.old) area.old
+        windows.now tally.old reports.old (event_at event node with) }
+    ensures kept_after { kept_of (store words.new bytes.new) area.new tally.new
         ≡ kept_after_event (store words.old bytes.old) area.old windows.now tally.old
-        reports.old (event_at event node with)) }
+        reports.old (event_at event node with) }
 {
-    let v = *tally;
-    if windows.len() == 0 {
-        let r = event_plain(words, bytes, area, reports, event, node, with, v);
-        *tally = r.tally;
-        return r.code;
+    if memory::lacks(words, bytes) {
+        return Err(Refusal::NoRoom);
     }
-    let w = windows::copied(windows);
-    let r = event_tallied(words, bytes, area, reports, event, node, with, w, v);
-    *tally = r.tally;
-    r.code
+    match script::events::event_at(event, node, with) {
+        None => memory::no_event(words, bytes, area, reports),
+        Some(e) => memory::step(words, bytes, area, reports, e, windows, tally),
+    }
 }
 
 // A live node's bytes to the start of an output.
@@ -321,29 +171,29 @@ fn put_node(words: &[u32], bytes: &[u8], j: u32, out: &mut [u8]) -> usize
 }
 
 // What a listing shows of node j of a site in storage, in 90 bytes at the start of an output.
-pub fn show(words: &[u32], bytes: &[u8], j: u32, out: &mut [u8]) -> u32
-    ensures value { result ≡ number (showing (store words.now bytes.now) j out.old) }
+pub fn show(words: &[u32], bytes: &[u8], j: u32, out: &mut [u8]) -> Answer
+    ensures value { result ≡ showing (store words.now bytes.now) j out.old }
     ensures out_after { out.new ≡ out_node (store words.now bytes.now) j out.old }
 {
     let short = (words.len() < WORDS) | (bytes.len() < BYTES);
     if short | (out.len() < SHOWN) {
-        return node::code(Answer::NoRoom);
+        return Err(Refusal::NoRoom);
     }
     let k = machine::header(words, bytes);
     if k.outside(j) {
-        return node::code(Answer::NoSuchNode);
+        return Err(Refusal::NoSuchNode);
     }
     put_node(words, bytes, j, out);
-    node::code(Answer::Done)
+    Ok(())
 }
 
 // The same of a site in memory.
-pub fn hydra_site_node(words: &[u32], bytes: &[u8], j: u32, out: &mut [u8]) -> u32
-    ensures value { result ≡ number (showing_of (store words.now bytes.now) j out.old) }
+pub fn hydra_site_node(words: &[u32], bytes: &[u8], j: u32, out: &mut [u8]) -> Answer
+    ensures value { result ≡ showing_of (store words.now bytes.now) j out.old }
     ensures out_after { out.new ≡ out_node_of (store words.now bytes.now) j out.old }
 {
-    if crate::memory::lacks(words, bytes) {
-        return node::code(Answer::NoRoom);
+    if memory::lacks(words, bytes) {
+        return Err(Refusal::NoRoom);
     }
     show(words, bytes, j, out)
 }

@@ -1,5 +1,5 @@
 // The table of places: what lies in each of the 256 places of the area.
-ghost use Rattle.std.specs.Prelude.{◌≡◌, cond, ◌*◌, ◌≤◌, length, set};
+ghost use Rattle.std.specs.Prelude.{◌≡◌, ◌*◌, ◌≤◌, length, set};
 ghost use Rattle.lists.specs.Bytes.{window};
 ghost use Rattle.wire.specs.Layout.{packet_size};
 ghost use Rattle.group.specs.Places.{place, freed_entry, freed};
@@ -9,44 +9,28 @@ pub(crate) fn place_of(places: &[u32], x: u32) -> usize
     ensures value { result ≡ place x places.now }
     ensures within { result ≤ length places.now }
 {
-    let n = places.len();
-    for i in 0..n {
-        if places[i] == x {
+    for (i, &p) in places.iter().enumerate() {
+        if p == x {
             return i;
         }
     }
-    n
+    places.len()
 }
 
 // An entry once number a is freed.
 fn freed_entry(a: u32, x: u32) -> u32
     ensures { result ≡ freed_entry a x }
 {
-    if x / 256 == a {
-        return 0;
-    }
-    x
+    if x / 256 == a { 0 } else { x }
 }
 
 // The places of number a are free.
 pub(crate) fn free(places: &mut [u32], a: u32)
     ensures { places.new ≡ freed a places.old }
 {
-    let n = places.len();
-    for i in 0..n {
-        let x = places[i];
-        places[i] = freed_entry(a, x);
+    for x in places.iter_mut() {
+        *x = freed_entry(a, *x);
     }
-}
-
-// The same where something happened that frees them.
-pub(crate) fn free_where(places: &mut [u32], a: u32, gone: bool)
-    ensures { places.new ≡ cond gone (freed a places.old) places.old }
-{
-    if !gone {
-        return;
-    }
-    free(places, a);
 }
 
 // An entry in a place; behind the last nothing is written.
@@ -64,10 +48,5 @@ pub(crate) fn part_at(area: &[u8], at: usize) -> [u8; 45]
     requires { at ≤ 256 }
     ensures { result ≡ window packet_size area.now (packet_size * at) }
 {
-    let from = 45 * at;
-    let mut part = [0u8; 45];
-    for i in 0..45usize {
-        part[i] = lists::byte(area, from + i);
-    }
-    part
+    lists::window(area, 45 * at)
 }

@@ -1,13 +1,13 @@
 // The lent memory of a group: its lengths, the numbers at which a site is loaded, and the common places that are taken.
-ghost use Rattle.std.specs.Prelude.{◌≡◌, ◌*◌, ◌≤◌, ◌<◌, length, replicate};
+ghost use Rattle.std.specs.Prelude.{◌≡◌, ◌*◌, ◌≤◌, ◌<◌, length};
 ghost use Rattle.machine.specs.Layout.{words_size, bytes_size};
 ghost use Rattle.group.specs.Group.{is_number, beyond};
-ghost use Rattle.sites.specs.many.Memory.{memory, table_size, group_too_short, day_at, site_slot_in, is_loaded, loaded_answer, site_slot_taken};
+ghost use Rattle.sites.specs.many.Memory.{memory, table_size, group_too_short, day_at, site_slot_in, loaded_answer, site_slot_taken};
 ghost use Rattle.sites.specs.many.Inner.{common_in, common_full};
 
-use crate::{kinds, turns};
+use crate::turns;
 use machine::{BYTES, Day, WORDS};
-use node::Answer;
+use node::{Answer, Refusal};
 use site::Event;
 
 // How many words the table has: 256 places, and three for each number.
@@ -28,30 +28,20 @@ pub(crate) fn is_number(a: u32) -> bool
     (1 <= a) & (a <= 8)
 }
 
-fn is_loaded(words: &[u32], bytes: &[u8], table: &[u32], a: u32) -> bool
-    ensures { result ≡ is_loaded (memory words.now bytes.now table.now) a }
-{
-    if !is_number(a) {
-        return false;
-    }
-    if too_few(words, bytes, table) {
-        return false;
-    }
-    let i = a as usize - 1;
-    table[SITE_SLOTS + 3 * i] == 1
-}
-
 // What is said of a number.
 pub(crate) fn loaded_answer(words: &[u32], bytes: &[u8], table: &[u32], a: u32) -> Answer
     ensures { result ≡ loaded_answer (memory words.now bytes.now table.now) a }
 {
-    if is_loaded(words, bytes, table, a) {
-        return Answer::Done;
+    if !is_number(a) {
+        return Err(Refusal::NoSuchNode);
     }
-    if is_number(a) & too_few(words, bytes, table) {
-        return Answer::NoRoom;
+    if too_few(words, bytes, table) {
+        return Err(Refusal::NoRoom);
     }
-    Answer::NoSuchNode
+    if table[SITE_SLOTS + 3 * (a as usize - 1)] != 1 {
+        return Err(Refusal::NoSuchNode);
+    }
+    Ok(())
 }
 
 // The day of the site at an index.
@@ -75,16 +65,6 @@ pub(crate) fn set_site_slot(table: &mut [u32], i: usize, day: Day)
     table[SITE_SLOTS + 3 * i + 2] = day.epoch;
 }
 
-// Nothing is loaded, and every place is free.
-pub(crate) fn clear(table: &mut [u32])
-    ensures { table.new ≡ replicate (length table.old) 0 }
-{
-    let n = table.len();
-    for i in 0..n {
-        table[i] = 0;
-    }
-}
-
 // What the site at an index has beyond its own 16 packets.
 fn beyond_at(words: &[u32], bytes: &[u8], table: &[u32], i: usize) -> u32
     requires { (8 * words_size ≤ length words.now) × (8 * bytes_size ≤ length bytes.now)
@@ -95,15 +75,11 @@ fn beyond_at(words: &[u32], bytes: &[u8], table: &[u32], i: usize) -> u32
     if table[SITE_SLOTS + 3 * i] != 1 {
         return 0;
     }
-    let from = WORDS * i;
-    let to = from + WORDS;
-    let low = BYTES * i;
-    let high = low + BYTES;
-    let n = turns::packets(&words[from..to], &bytes[low..high]);
-    if n < 16 {
-        return 0;
-    }
-    n - 16
+    let n = turns::packets(
+        &words[WORDS * i..WORDS * i + WORDS],
+        &bytes[BYTES * i..BYTES * i + BYTES],
+    );
+    n.saturating_sub(16)
 }
 
 // The common places that are taken.
@@ -111,9 +87,10 @@ fn common(words: &[u32], bytes: &[u8], table: &[u32]) -> u32
     requires { (8 * words_size ≤ length words.now) × (8 * bytes_size ≤ length bytes.now) × (table_size ≤ length table.now) }
     ensures { result ≡ common_in (memory words.now bytes.now table.now) }
 {
-    let mut n = 0u32;
+    let mut n = 0;
+    // Kept: the index is where the site's words, bytes and slot lie; a sum over a map of the range would say the same in a closure.
     for i in 0..8usize {
-        n = n + beyond_at(words, bytes, table, i);
+        n += beyond_at(words, bytes, table, i);
     }
     n
 }
@@ -123,8 +100,5 @@ pub(crate) fn is_full(words: &[u32], bytes: &[u8], table: &[u32], e: Event) -> b
     requires { (8 * words_size ≤ length words.now) × (8 * bytes_size ≤ length bytes.now) × (table_size ≤ length table.now) }
     ensures { result ≡ common_full (memory words.now bytes.now table.now) e }
 {
-    if !kinds::is_send(e) {
-        return false;
-    }
-    128 <= common(words, bytes, table)
+    matches!(e, Event::Send(_)) && 128 <= common(words, bytes, table)
 }

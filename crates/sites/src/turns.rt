@@ -1,23 +1,22 @@
 // One event of a site whose packets lie by the table of places: the site's own storage, the 256 places and the area.
 ghost use Rattle.std.specs.Prelude.{◌≡◌, false, ◌≤◌, length};
-ghost use Rattle.node.specs.Answers.{number};
 ghost use Rattle.site.specs.Counts.{packets};
 ghost use Rattle.site.specs.Answers.{area_size};
 ghost use Rattle.machine.specs.Layout.{store, site_in, words_size, bytes_size};
-ghost use Rattle.windows.specs.Copies.{windows_in};
 ghost use Rattle.machine.specs.combined.Stored.{lent_too_short};
 ghost use Rattle.group.specs.Places.{top_places};
 ghost use Rattle.group.specs.Calls.{is_send};
 ghost use Rattle.sites.specs.many.Memory.{lent};
-ghost use Rattle.sites.specs.many.Inner.{is_hear, one_site, own_by, step_result_by, lent_store_by, site_by, places_by, area_by, report_by};
+ghost use Rattle.sites.specs.many.Inner.{is_hear, one_site, own_by, answer_by, day_by, tally_by, lent_store_by, site_by, places_by, area_by, report_by};
 ghost use Rattle.sites.specs.many.Inner.{list_answer};
-ghost use Rattle.sites.specs.many.Inner.{send_number, send_store, send_places, send_area, group_hear_answer, hear_store, heard_bytes};
+ghost use Rattle.sites.specs.many.Inner.{send_answer, send_store, send_places, send_area, group_hear_answer, hear_store, heard_bytes};
 
-use crate::{Part, kinds, places};
-use machine::{Day, StepResult};
-use node::Answer;
+use crate::places;
+use machine::Day;
+use node::{Answer, Refusal};
 use site::Event;
 use tally::Tally;
+use windows::Window;
 
 // The packets of a site in this phase.
 pub(crate) fn packets(words: &[u32], bytes: &[u8]) -> u32
@@ -30,16 +29,16 @@ pub(crate) fn packets(words: &[u32], bytes: &[u8]) -> u32
 }
 
 // What is said of a list of windows, by the site's nodes and its day.
-fn listed(words: &[u32], bytes: &[u8], day: Day, w: &[u32]) -> Answer
+fn listed(words: &[u32], bytes: &[u8], day: Day, w: &[Window]) -> Answer
     requires { (words_size ≤ length words.now) × (bytes_size ≤ length bytes.now) }
-    ensures { result ≡ list_answer (store words.now bytes.now) day (windows_in w.now) }
+    ensures { result ≡ list_answer (store words.now bytes.now) day w.now }
 {
     let k = machine::header(words, bytes);
     let f = k.config;
     if windows::list_ok(w, f.nodes, day.length) {
-        return Answer::Done;
+        return Ok(());
     }
-    Answer::BadWindows
+    Err(Refusal::BadWindows)
 }
 
 // A send of number a, with an area that is long enough; o is what is said of its windows. The packet goes into the lowest free place. It is
@@ -53,28 +52,24 @@ fn send(
     o: Answer,
     full: bool,
     j: u32,
-) -> u32
+) -> Answer
     requires { (words_size ≤ length words.now) × (bytes_size ≤ length bytes.old) × (length list.old ≡ top_places)
         × (area_size ≤ length area.old) × (a ≤ 8) }
-    ensures value { result ≡ send_number (store words.now bytes.old) o full j }
+    ensures value { result ≡ send_answer (store words.now bytes.old) o full j }
     ensures bytes_after { bytes.new ≡ (send_store (store words.now bytes.old) o full j).bytes }
     ensures list_after { list.new ≡ send_places (store words.now bytes.old) o full j a list.old }
     ensures area_after { area.new
         ≡ send_area (store words.now bytes.old) o full j list.old area.old }
 {
-    let plain = machine::steps::answer_to(words, bytes, area, Event::Send(j));
-    let answer = machine::combined::first_of(plain, o);
-    if !node::is_done(answer) {
-        return node::code(answer);
-    }
+    machine::steps::answer_to(words, bytes, area, Event::Send(j))?;
+    o?;
     let n = packets(words, bytes);
     if (16 <= n) & full {
-        return node::code(Answer::Crowded);
+        return Err(Refusal::Crowded);
     }
     let at = places::place_of(list, 0);
-    machine::steps::send_into(words, bytes, area, at as u32, j);
     places::put_entry(list, at, 256 * a + (n + 1));
-    0
+    machine::steps::send_into(words, bytes, area, at as u32, j)
 }
 
 // The bytes of packet p of number a; for a number of no packet zeros, which nothing looks at.
@@ -100,10 +95,10 @@ fn hear(
     o: Answer,
     j: u32,
     p: u32,
-) -> u32
+) -> Answer
     requires { (words_size ≤ length words.old) × (bytes_size ≤ length bytes.old) × (length list.now ≡ top_places) × (a ≤ 8) }
-    ensures value { result ≡ number (group_hear_answer (store words.old bytes.old)
-        (own_by list.now area.now a (store words.old bytes.old)) o j p) }
+    ensures value { result ≡ group_hear_answer (store words.old bytes.old)
+        (own_by list.now area.now a (store words.old bytes.old)) o j p }
     ensures words_after { words.new
         ≡ (hear_store (store words.old bytes.old)
         (own_by list.now area.now a (store words.old bytes.old)) o j p).words }
@@ -112,12 +107,13 @@ fn hear(
         (own_by list.now area.now a (store words.old bytes.old)) o j p).bytes }
 {
     let part = heard_bytes(words, bytes, list, area, a, p);
-    if !node::is_done(o) {
-        let plain = machine::steps::answer_from(words, bytes, &part, 0, j, p);
-        return node::code(machine::combined::first_of(plain, o));
+    if o.is_err() {
+        return machine::combined::first_of(
+            machine::steps::answer_from(words, bytes, &part, 0, j, p),
+            o,
+        );
     }
-    let answer = machine::steps::hear_from(words, bytes, &part, 0, j, p);
-    node::code(answer)
+    machine::steps::hear_from(words, bytes, &part, 0, j, p)
 }
 
 // Any other event, with an area that is long enough: the machine looks only at its length. A close frees the places.
@@ -127,39 +123,46 @@ fn other(
     list: &mut [u32],
     area: &mut [u8],
     out: &mut [u8],
-    day: Day,
+    day: &mut Day,
     a: u32,
     e: Event,
-    w: &[u32],
-    t: Tally,
-) -> StepResult
+    w: &[Window],
+    t: &mut Tally,
+) -> Answer
     requires { (lent_too_short (store words.old bytes.old) area.old out.old ≡ false) × (is_send e ≡ false) × (is_hear e ≡ false) }
-    ensures value { result ≡ step_result_by
-        (one_site (store words.old bytes.old) day a list.old area.old) false
-        (lent (windows_in w.now) t out.old) e }
+    ensures value { result
+        ≡ answer_by (one_site (store words.old bytes.old) day.old a list.old area.old) false
+        (lent w.now t.old out.old) e }
+    ensures day_after { day.new
+        ≡ day_by (one_site (store words.old bytes.old) day.old a list.old area.old) false
+        (lent w.now t.old out.old) e }
+    ensures tally_after { t.new
+        ≡ tally_by (one_site (store words.old bytes.old) day.old a list.old area.old) false
+        (lent w.now t.old out.old) e }
     ensures words_after { words.new
-        ≡ (lent_store_by (one_site (store words.old bytes.old) day a list.old area.old) false
-        (lent (windows_in w.now) t out.old) e).words }
+        ≡ (lent_store_by (one_site (store words.old bytes.old) day.old a list.old area.old) false
+        (lent w.now t.old out.old) e).words }
     ensures bytes_after { bytes.new
-        ≡ (lent_store_by (one_site (store words.old bytes.old) day a list.old area.old) false
-        (lent (windows_in w.now) t out.old) e).bytes }
+        ≡ (lent_store_by (one_site (store words.old bytes.old) day.old a list.old area.old) false
+        (lent w.now t.old out.old) e).bytes }
     ensures list_after { list.new
-        ≡ places_by (one_site (store words.old bytes.old) day a list.old area.old) false
-        (lent (windows_in w.now) t out.old) e }
+        ≡ places_by (one_site (store words.old bytes.old) day.old a list.old area.old) false
+        (lent w.now t.old out.old) e }
     ensures area_after { area.new
-        ≡ area_by (one_site (store words.old bytes.old) day a list.old area.old) false
-        (lent (windows_in w.now) t out.old) e }
+        ≡ area_by (one_site (store words.old bytes.old) day.old a list.old area.old) false
+        (lent w.now t.old out.old) e }
     ensures out_after { out.new
-        ≡ report_by (one_site (store words.old bytes.old) day a list.old area.old) false
-        (lent (windows_in w.now) t out.old) e }
-    ensures bytes_after_2 { site_in (store words.new bytes.new)
-        ≡ site_by (one_site (store words.old bytes.old) day a list.old area.old) false
-        (lent (windows_in w.now) t out.old) e }
+        ≡ report_by (one_site (store words.old bytes.old) day.old a list.old area.old) false
+        (lent w.now t.old out.old) e }
+    ensures site_after { site_in (store words.new bytes.new)
+        ≡ site_by (one_site (store words.old bytes.old) day.old a list.old area.old) false
+        (lent w.now t.old out.old) e }
 {
-    let r = machine::combined::step(words, bytes, area, day, e, w, t, out);
-    let gone = site::is_close(e) & (r.code == 0);
-    places::free_where(list, a, gone);
-    r
+    let answer = machine::combined::step(words, bytes, area, day, e, w, t, out);
+    if site::is_close(e) & answer.is_ok() {
+        places::free(list, a);
+    }
+    answer
 }
 
 // One event.
@@ -169,64 +172,54 @@ pub(crate) fn turn(
     list: &mut [u32],
     area: &mut [u8],
     out: &mut [u8],
-    day: Day,
+    day: &mut Day,
     a: u32,
     full: bool,
     e: Event,
-    w: &[u32],
-    t: Tally,
-) -> StepResult
+    w: &[Window],
+    t: &mut Tally,
+) -> Answer
     requires { (words_size ≤ length words.old) × (bytes_size ≤ length bytes.old) × (length list.old ≡ top_places) × (a ≤ 8) }
-    ensures value { result ≡ step_result_by
-        (one_site (store words.old bytes.old) day a list.old area.old) full
-        (lent (windows_in w.now) t out.old) e }
+    ensures value { result
+        ≡ answer_by (one_site (store words.old bytes.old) day.old a list.old area.old) full
+        (lent w.now t.old out.old) e }
+    ensures day_after { day.new
+        ≡ day_by (one_site (store words.old bytes.old) day.old a list.old area.old) full
+        (lent w.now t.old out.old) e }
+    ensures tally_after { t.new
+        ≡ tally_by (one_site (store words.old bytes.old) day.old a list.old area.old) full
+        (lent w.now t.old out.old) e }
     ensures words_after { words.new
-        ≡ (lent_store_by (one_site (store words.old bytes.old) day a list.old area.old) full
-        (lent (windows_in w.now) t out.old) e).words }
+        ≡ (lent_store_by (one_site (store words.old bytes.old) day.old a list.old area.old) full
+        (lent w.now t.old out.old) e).words }
     ensures bytes_after { bytes.new
-        ≡ (lent_store_by (one_site (store words.old bytes.old) day a list.old area.old) full
-        (lent (windows_in w.now) t out.old) e).bytes }
+        ≡ (lent_store_by (one_site (store words.old bytes.old) day.old a list.old area.old) full
+        (lent w.now t.old out.old) e).bytes }
     ensures list_after { list.new
-        ≡ places_by (one_site (store words.old bytes.old) day a list.old area.old) full
-        (lent (windows_in w.now) t out.old) e }
+        ≡ places_by (one_site (store words.old bytes.old) day.old a list.old area.old) full
+        (lent w.now t.old out.old) e }
     ensures area_after { area.new
-        ≡ area_by (one_site (store words.old bytes.old) day a list.old area.old) full
-        (lent (windows_in w.now) t out.old) e }
+        ≡ area_by (one_site (store words.old bytes.old) day.old a list.old area.old) full
+        (lent w.now t.old out.old) e }
     ensures out_after { out.new
-        ≡ report_by (one_site (store words.old bytes.old) day a list.old area.old) full
-        (lent (windows_in w.now) t out.old) e }
-    ensures bytes_after_2 { site_in (store words.new bytes.new)
-        ≡ site_by (one_site (store words.old bytes.old) day a list.old area.old) full
-        (lent (windows_in w.now) t out.old) e }
+        ≡ report_by (one_site (store words.old bytes.old) day.old a list.old area.old) full
+        (lent w.now t.old out.old) e }
+    ensures site_after { site_in (store words.new bytes.new)
+        ≡ site_by (one_site (store words.old bytes.old) day.old a list.old area.old) full
+        (lent w.now t.old out.old) e }
 {
     if machine::combined::too_few(words, bytes, area, out) {
-        let code = node::code(Answer::NoRoom);
-        return StepResult {
-            code,
-            day,
-            tally: t,
-        };
+        return Err(Refusal::NoRoom);
     }
-    let k = kinds::taken_apart(e);
-    match k {
-        Part::Sends(j) => {
-            let o = listed(words, bytes, day, w);
-            let code = send(words, bytes, list, area, a, o, full, j);
-            StepResult {
-                code,
-                day,
-                tally: t,
-            }
+    match e {
+        Event::Send(j) => {
+            let o = listed(words, bytes, *day, w);
+            send(words, bytes, list, area, a, o, full, j)
         }
-        Part::Hears(j, p) => {
-            let o = listed(words, bytes, day, w);
-            let code = hear(words, bytes, list, area, a, o, j, p);
-            StepResult {
-                code,
-                day,
-                tally: t,
-            }
+        Event::Hear(j, p) => {
+            let o = listed(words, bytes, *day, w);
+            hear(words, bytes, list, area, a, o, j, p)
         }
-        Part::Neither => other(words, bytes, list, area, out, day, a, e, w, t),
+        _ => other(words, bytes, list, area, out, day, a, e, w, t),
     }
 }

@@ -7,8 +7,8 @@ use Prim.Native.Nat.{ℕ}
 use lib.Dec.{eqb}
 use Rattle.words.proofs.Tests.{hit, by-test, and_right}
 use Rattle.node.specs.Answers.{is_done}
-use Rattle.node.specs.declared.Answer.{Answer}
-use Rattle.node.specs.declared.Answer.TheVariants.{Done, NotANode}
+use Rattle.node.specs.Answers.{Answer}
+use Rattle.node.specs.Answers.{Done, NotANode}
 use Rattle.node.proofs.Answers.{done-is}
 use Rattle.site.specs.Answers.{answer_of}
 use Rattle.site.specs.Steps.{site_after, area_after, next_site, next_area, ended_site}

@@ -4,6 +4,12 @@ use mathlib.Core.Path.{◌≡◌, refl, sym, ap, ap₂, ◌∙◌}
 use mathlib.Core.Bool.{Bool, true, false}
 use Prim.Native.Nat.{ℕ, zero, suc, ◌+◌, ◌*◌, ◌≤◌, ◌<◌}
 use native.Mathlib.Omega.{arith}
+use mir.Val.{bool_byte}
+use mathlib.Core.List.{List, ◌++◌}
+use lib.ListN.{length, get_or, drop}
+use lib.Seq.{get_or_at, drop-cons}
+use Rattle.lists.specs.All.{tab}
+use Rattle.lists.proofs.Laws.{length-tab}
 use Rattle.words.specs.Bits.{digit, how_many}
 use Rattle.words.proofs.Counts.{how_many-none, how_many-suc}
 use Rattle.tally.specs.Claims.{sum}
@@ -14,6 +20,16 @@ add-one n = omega arith
 pub digit-le : (t : Bool) → digit t ≤ 1
 digit-le true = omega arith
 digit-le false = omega arith
+
+-- a test as a number, in the code
+pub byte-digit : (t : Bool) → bool_byte t ≡ digit t
+byte-digit true = refl
+byte-digit false = refl
+
+-- what stands where a list that is filled by its rule has come to
+pub fill-next : (n : ℕ) (f : ℕ → ℕ) (d : List ℕ) → n < length d → get_or (tab n f ++ drop n d) n 0 ≡ get_or d n 0
+fill-next n f d h = ap (λ (l : List ℕ). get_or (tab n f ++ l) n 0) (drop-cons d n 0 h)
+    ∙ get_or_at (tab n f) (get_or d n 0) (drop (suc n) d) 0 n (length-tab n f)
 
 -- a count is at most as many as are counted
 pub how_many-le : (n : ℕ) (p : ℕ → Bool) → how_many n p ≤ n

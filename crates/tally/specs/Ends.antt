@@ -6,8 +6,8 @@ use Rattle.lists.specs.All.{tab}
 use Rattle.allotment.specs.Allotment.{free}
 use Rattle.allotment.specs.Model.{Schedule}
 use Rattle.node.specs.Answers.{is_done}
-use Rattle.node.specs.declared.Answer.{Answer}
-use Rattle.node.specs.declared.Answer.TheVariants.{Done, NotANode}
+use Rattle.node.specs.Answers.{Answer}
+use Rattle.node.specs.Answers.{Done, NotANode}
 use Rattle.site.specs.Members.{nobody, is_live}
 use Rattle.site.specs.Answers.{answer_of}
 use Rattle.site.specs.Steps.{next_site, next_area}

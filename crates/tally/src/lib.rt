@@ -2,10 +2,10 @@
 #![tactic(auto)]
 
 ghost use Rattle.std.specs.Prelude.{◌≡◌, true, ◌≤◌, ◌<◌};
-ghost use Rattle.words.specs.Bits.{digit};
-ghost use Rattle.tally.specs.Counting.{top_epochs, first_tally, tally_entry_ok, tally_ok, tally_full, added_by, counted_by};
+ghost use Rattle.tally.specs.Counting.{top_epochs, first_tally, tally_ok, tally_full, added_by, counted_by};
 
 // Epochs counted, the site's slots, and by node the slots that it held and the epochs in which it held one. The fields lie as C has them.
+// Kept: two lists and not one of pairs, since `include/hydra.h` has this layout.
 #[repr(C)]
 #[derive(Clone, Copy)]
 pub struct Tally {
@@ -13,27 +13,6 @@ pub struct Tally {
     pub total: u32,
     pub slots: [u32; 32],
     pub held: [u32; 32],
-}
-
-// A test as a number.
-fn one_if(t: bool) -> u32
-    ensures { result ≡ digit t }
-{
-    if t { 1 } else { 0 }
-}
-
-// A number with room above it for products and sums.
-fn wide(x: u32) -> u64
-    ensures { (result ≡ x) × (result ≤ 4294967295) }
-{
-    x as u64
-}
-
-// A byte as a word.
-fn word(x: u8) -> u32
-    ensures { (result ≡ x) × (result ≤ 255) }
-{
-    x as u32
 }
 
 impl Tally {
@@ -47,8 +26,8 @@ impl Tally {
         Tally {
             epochs: 1,
             total: 0,
-            slots: [0u32; 32],
-            held: [0u32; 32],
+            slots: [0; 32],
+            held: [0; 32],
         }
     }
 
@@ -59,29 +38,19 @@ impl Tally {
         self.epochs == Tally::EPOCHS
     }
 
-    // The numbers of the node at index i are within their bounds.
-    fn entry_ok(self, i: usize) -> bool
-        requires { i < 32 }
-        ensures { result ≡ tally_entry_ok self i }
-    {
-        let slots = self.slots;
-        let held = self.held;
-        let h = held[i];
-        (h <= self.epochs) & (wide(slots[i]) <= 80 * wide(h))
-    }
-
     // What is not refused as 14.
     pub fn is_valid(self) -> bool
         ensures { result ≡ tally_ok self }
     {
-        let slots = self.slots;
+        let total = u64::from(self.total);
         let mut ok = true;
-        let mut sum: u64 = 0;
-        for i in 0..32usize {
-            ok = ok & self.entry_ok(i);
-            sum = sum + wide(slots[i]);
+        let mut sum = 0;
+        for (i, slots) in self.slots.iter().enumerate() {
+            let held = self.held[i];
+            ok &= (held <= self.epochs) & (u64::from(*slots) <= 80 * u64::from(held));
+            sum += u64::from(*slots);
         }
-        (self.epochs <= Tally::EPOCHS) & (ok & (wide(self.total) == sum))
+        (self.epochs <= Tally::EPOCHS) & (ok & (total == sum))
     }
 
     // One epoch more, from how many slots each node holds in it.
@@ -89,16 +58,13 @@ impl Tally {
         requires { (tally_ok self ≡ true) × (self.epochs < top_epochs) }
         ensures { result ≡ added_by self numbers }
     {
-        let slots_before = self.slots;
-        let held_before = self.held;
-        let mut slots = slots_before;
-        let mut held = held_before;
+        let mut slots = self.slots;
+        let mut held = self.held;
         let mut total = self.total;
-        for i in 0..32usize {
-            let n = word(numbers[i]);
-            slots[i] = slots_before[i] + n;
-            held[i] = held_before[i] + one_if(0 < n);
-            total = total + n;
+        for (i, n) in numbers.iter().enumerate() {
+            slots[i] += u32::from(*n);
+            held[i] += u32::from(0 < *n);
+            total += u32::from(*n);
         }
         Tally {
             epochs: self.epochs + 1,
@@ -112,7 +78,7 @@ impl Tally {
     pub fn counted(self, numbers: [u8; 32]) -> Tally
         ensures { result ≡ counted_by self numbers }
     {
-        if self.is_valid() & !self.is_full() {
+        if self.is_valid() && !self.is_full() {
             return self.added(numbers);
         }
         self

@@ -10,7 +10,7 @@ use lib.Dec.{ltb}
 use lib.ListN.{length, get_or, length-append, get_or-append}
 use Rattle.text.specs.Read.{digits_from, number_of}
 use Rattle.text.specs.Write.{digits_of, decimal}
-use Rattle.text.specs.declared.Num.TheVariants.{Value}
+use Rattle.std.specs.Prelude.{Some}
 use Rattle.text.proofs.Decimal.{tens}
 use Rattle.text.proofs.Pieces.{number_digits}
 
@@ -53,14 +53,14 @@ leads (suc k) x l h = go (ltb x 10) refl (leads k (x / 10))
               (get_or-append (digits_of k (x / 10)) ((48 + x % 10) ∷ []) 0 0 p.0) p.1,
         )
 
-nonzero : (x : ℕ) → 1 ≤ x → x ≤ 4294967295 → number_of (decimal x) ≡ Value x
+nonzero : (x : ℕ) → 1 ≤ x → x ≤ 4294967295 → number_of (decimal x) ≡ Some x
 unfolding digits_from tens
 nonzero x l m =
     let p : (0 < length (decimal x)) × (48 < get_or (decimal x) 0 0) = leads 10 x l (omega arith) in
     number_digits (decimal x) (λ e. omega (arith, e, p.0)) (λ e. omega (arith, e, p.1))
     ∙ ap (digits_from 0) (sym (append-nil (decimal x))) ∙ digits-back 10 x [] (omega arith) m
 
-pub read_back : (x : ℕ) → x ≤ 4294967295 → number_of (decimal x) ≡ Value x
+pub read_back : (x : ℕ) → x ≤ 4294967295 → number_of (decimal x) ≡ Some x
 unfolding number_of digits_of
 read_back zero m = refl
 read_back (suc x) m = nonzero (suc x) (omega arith) m

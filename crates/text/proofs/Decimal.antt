@@ -3,8 +3,9 @@
 use mathlib.Core.Path.{◌≡◌, refl, sym, ap, ap₂, ◌∙◌}
 use mathlib.Core.Bool.{Bool, true, false, cond}
 use mathlib.Core.List.{List, [], ◌∷◌, ◌++◌, append_assoc}
-use Prim.Native.Nat.{ℕ, zero, suc, ◌+◌, ◌*◌, ◌/◌, ◌%◌, ◌-◌, ◌≤◌, ◌<◌}
+use Prim.Native.Nat.{ℕ, zero, suc, ◌+◌, ◌*◌, ◌/◌, ◌%◌, ◌-◌, ◌^◌, ◌≤◌, ◌<◌}
 use native.Mathlib.Omega.{arith}
+use native.Mathlib.Numerals.{add-one}
 use borrow.Author.Tests.{lt-ltb, le-ltb, ltb-true}
 use lib.Dec.{ltb}
 use lib.ListN.{length, take, drop, set, length-append}
@@ -71,6 +72,17 @@ digits-exact (suc m) k x h l u =
     let p = tens-some m in
     let r = digits-exact m (k - 1) (x / 10) (omega (arith, h)) (omega (arith, l)) (omega (arith, u)) in
     omega (arith, length-digits-more k x (λ e. absurd (omega (arith, e, h))) (omega (arith, l, p)), r)
+
+tens-power : (m : ℕ) → tens m ≡ 10 ^ m
+unfolding tens
+tens-power zero = refl
+tens-power (suc m) = let e = tens-power m in omega (arith, e)
+
+-- by the power of ten below it
+pub digits-power : (m x : ℕ) → m < 10 → 10 ^ m ≤ x → x < 10 * 10 ^ m → m + 1 ≡ length (digits_of 10 x)
+digits-power m x h l u =
+    let e = tens-power m in
+    add-one m ∙ sym (digits-exact m 10 x h (rw e l) (rw e u))
 
 -- the m lowest digits of a number
 unfoldable pub lowest : ℕ → ℕ → List ℕ

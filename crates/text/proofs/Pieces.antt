@@ -6,13 +6,16 @@ use mathlib.Core.List.{List, [], ◌∷◌}
 use Prim.Native.Nat.{ℕ, suc, ◌+◌, ◌*◌, ◌-◌, ◌≤◌, ◌<◌}
 use native.Mathlib.Omega.{arith}
 use native.Mathlib.Numerals.{add-one}
-use borrow.Author.Tests.{eq-eqb, ne_eqb, lt-ltb, le-ltb, eqb-true}
+use borrow.Author.Tests.{eq-eqb, ne_eqb, lt-ltb, le-ltb, eqb-true, ltb-false}
 use lib.Dec.{eqb, ltb}
 use lib.ListN.{length, get_or, take, drop, drop_of_length-le, length-drop}
 use lib.Seq.{drop-cons, take_all}
+use Rattle.std.specs.List.{position, position_or_len}
+use Rattle.std.specs.Option.{unwrap_or}
+use Rattle.std.proofs.lemmas.List.Recursion.{is_position_or_len}
 use Rattle.text.specs.Read.{before, front, split, digits_from, number_of}
-use Rattle.text.specs.declared.Num.{Num}
-use Rattle.text.specs.declared.Num.TheVariants.{Bad, Value}
+use Rattle.std.specs.Prelude.{Option}
+use Rattle.std.specs.Prelude.{None, Some}
 
 pub before-end : (c : ℕ) (s : List ℕ) (i : ℕ) → length s ≤ i → before c (drop i s) ≡ 0
 unfolding before
@@ -37,6 +40,27 @@ before-le c (b ∷ s) = go (eqb b c) (before-le c s)
     go : (t : Bool) → before c s ≤ length s → cond t 0 (suc (before c s)) ≤ suc (length s)
     go true h = omega arith
     go false h = omega arith
+
+-- as std finds an element's place
+pub before-position : (c : ℕ) (s : List ℕ) → before c s ≡ position_or_len (λ b. eqb b c) s
+unfolding before
+before-position c s =
+    is_position_or_len (before c) (λ b. eqb b c) refl
+    (λ x xs. let e : suc (before c xs) ≡ 1 + before c xs = omega arith in ap (λ (n : ℕ). cond (eqb x c) 0 n) e) s
+
+found-or : (p n : ℕ) → p ≤ n → unwrap_or (cond (ltb p n) (Some p) None) n ≡ p
+found-or p n h = go (ltb p n) refl
+  where
+    go : (t : Bool) → ltb p n ≡ t → unwrap_or (cond t (Some p) None) n ≡ p
+    go true e = refl
+    go false e = let k : n ≤ p = ltb-false p n e in omega arith
+
+-- the place of the first c, or the length
+pub found-before : (c : ℕ) (s : List ℕ) → unwrap_or (position (λ b. eqb b c) s) (length s) ≡ before c s
+found-before c s =
+    let e = before-position c s in
+    let h : position_or_len (λ b. eqb b c) s ≤ length s = omega (arith, e, before-le c s) in
+    found-or (position_or_len (λ b. eqb b c) s) (length s) h ∙ sym e
 
 -- no c: one piece
 pub split-last : (c : ℕ) (s : List ℕ) → before c s ≡ length s → split c s ≡ s ∷ []
@@ -63,18 +87,18 @@ split-cut c (b ∷ s) h = go (eqb b c) (split-cut c s) h
     go true f h = refl
     go false f h = ap (front b) (f (omega arith))
 
-pub number-none : (s : List ℕ) → length s ≡ 0 → number_of s ≡ Bad
+pub number-none : (s : List ℕ) → length s ≡ 0 → number_of s ≡ None
 unfolding number_of
 number-none [] h = refl
 number-none (b ∷ s) h = absurd (omega arith)
 
-pub number-zero : (s : List ℕ) → length s ≡ 1 → get_or s 0 0 ≡ 48 → number_of s ≡ Value 0
+pub number-zero : (s : List ℕ) → length s ≡ 1 → get_or s 0 0 ≡ 48 → number_of s ≡ Some 0
 unfolding number_of
 number-zero [] h e = absurd (omega arith)
 number-zero (b ∷ []) h e = rw (eq-eqb b 48 e)
 number-zero (b ∷ a ∷ s) h e = absurd (omega arith)
 
-pub number-leading : (s : List ℕ) → (length s ≡ 0 → ⊥) → (length s ≡ 1 → ⊥) → get_or s 0 0 ≡ 48 → number_of s ≡ Bad
+pub number-leading : (s : List ℕ) → (length s ≡ 0 → ⊥) → (length s ≡ 1 → ⊥) → get_or s 0 0 ≡ 48 → number_of s ≡ None
 unfolding number_of
 number-leading [] n h e = absurd (n refl)
 number-leading (b ∷ []) n h e = absurd (h refl)
@@ -85,20 +109,20 @@ unfolding number_of
 number_digits [] n e = absurd (n refl)
 number_digits (b ∷ s) n e = rw (ne_eqb b 48 e)
 
-pub digits-end : (v : ℕ) (s : List ℕ) (i : ℕ) → length s ≤ i → digits_from v (drop i s) ≡ Value v
+pub digits-end : (v : ℕ) (s : List ℕ) (i : ℕ) → length s ≤ i → digits_from v (drop i s) ≡ Some v
 unfolding digits_from
 digits-end v s i h = rw (drop_of_length-le s h)
 
 module _ (v : ℕ) (s : List ℕ) (i : ℕ) (h : i < length s) where
-  pub digits_low : get_or s i 0 < 48 → digits_from v (drop i s) ≡ Bad
+  pub digits_low : get_or s i 0 < 48 → digits_from v (drop i s) ≡ None
   unfolding digits_from
   digits_low k = rw (drop-cons s i 0 h, lt-ltb (get_or s i 0) 48 k)
 
-  pub digits-high : 48 ≤ get_or s i 0 → 57 < get_or s i 0 → digits_from v (drop i s) ≡ Bad
+  pub digits-high : 48 ≤ get_or s i 0 → 57 < get_or s i 0 → digits_from v (drop i s) ≡ None
   unfolding digits_from
   digits-high k l = rw (drop-cons s i 0 h, le-ltb (get_or s i 0) 48 k, lt-ltb 57 (get_or s i 0) l)
 
-  pub digits-large : 48 ≤ get_or s i 0 → get_or s i 0 ≤ 57 → 4294967295 < v * 10 + (get_or s i 0 - 48) → digits_from v (drop i s) ≡ Bad
+  pub digits-large : 48 ≤ get_or s i 0 → get_or s i 0 ≤ 57 → 4294967295 < v * 10 + (get_or s i 0 - 48) → digits_from v (drop i s) ≡ None
   unfolding digits_from
   digits-large k l m = rw (
     drop-cons s i 0 h,
@@ -121,7 +145,7 @@ module _ (v : ℕ) (s : List ℕ) (i : ℕ) (h : i < length s) where
   )
 
 -- a space is no digit: no digits are a number where there is one
-digits-spaced : (v : ℕ) (s : List ℕ) → before 32 s < length s → digits_from v s ≡ Bad
+digits-spaced : (v : ℕ) (s : List ℕ) → before 32 s < length s → digits_from v s ≡ None
 unfolding digits_from before
 digits-spaced v [] h = absurd (omega arith)
 digits-spaced v (b ∷ s) h = go (eqb b 32) (eqb-true b 32) (digits-spaced (v * 10 + (b - 48)) s) h
@@ -129,29 +153,29 @@ digits-spaced v (b ∷ s) h = go (eqb b 32) (eqb-true b 32) (digits-spaced (v * 
     rest : ℕ
     rest = v * 10 + (b - 48)
 
-    all-bad : (p q r : Bool) (n : Num) → n ≡ Bad → cond p Bad (cond q Bad (cond r Bad n)) ≡ Bad
+    all-bad : (p q r : Bool) (n : (Option ℕ)) → n ≡ None → cond p None (cond q None (cond r None n)) ≡ None
     all-bad true q r n e = refl
     all-bad false true r n e = refl
     all-bad false false true n e = refl
     all-bad false false false n e = e
 
-    go : (t : Bool) → (t ≡ true → b ≡ 32) → (before 32 s < length s → digits_from rest s ≡ Bad)
-        → cond t 0 (suc (before 32 s)) < suc (length s) → digits_from v (b ∷ s) ≡ Bad
+    go : (t : Bool) → (t ≡ true → b ≡ 32) → (before 32 s < length s → digits_from rest s ≡ None)
+        → cond t 0 (suc (before 32 s)) < suc (length s) → digits_from v (b ∷ s) ≡ None
     go true f more k = rw (lt-ltb b 48 (omega (arith, f refl)))
     go false f more k = all-bad (ltb b 48) (ltb 57 b) (ltb 4294967295 rest) (digits_from rest s) (more (omega arith))
 
 -- and no number
-pub number-spaced : (s : List ℕ) → before 32 s < length s → number_of s ≡ Bad
+pub number-spaced : (s : List ℕ) → before 32 s < length s → number_of s ≡ None
 unfolding number_of before
 number-spaced [] h = absurd (omega arith)
 number-spaced (b ∷ []) h = go (eqb b 32) (eqb-true b 32) h
   where
-    go : (t : Bool) → (t ≡ true → b ≡ 32) → cond t 0 1 < 1 → cond (eqb b 48) (Value 0) (digits_from 0 (b ∷ [])) ≡ Bad
+    go : (t : Bool) → (t ≡ true → b ≡ 32) → cond t 0 1 < 1 → cond (eqb b 48) (Some 0) (digits_from 0 (b ∷ [])) ≡ None
     go true f k = rw (ne_eqb b 48 (λ e. omega (arith, e, f refl))) (digits-spaced 0 (b ∷ []) h)
     go false f k = absurd (omega arith)
 number-spaced (b ∷ a ∷ s) h = go (eqb b 48)
   where
-    go : (t : Bool) → cond t Bad (digits_from 0 (b ∷ a ∷ s)) ≡ Bad
+    go : (t : Bool) → cond t None (digits_from 0 (b ∷ a ∷ s)) ≡ None
     go true = refl
     go false = digits-spaced 0 (b ∷ a ∷ s) h
 
@@ -173,20 +197,20 @@ first_piece c s e h k n =
     rw (behind-is (e + 1) s, h, add-one) (split-cut c s (omega arith))
 
 -- there is always a piece
-abbrev pub Some : List (List ℕ) → Type 0
-Some [] = ⊥
-Some (p ∷ ps) = Unit
+abbrev pub HasPiece : List (List ℕ) → Type 0
+HasPiece [] = ⊥
+HasPiece (p ∷ ps) = Unit
 
-front-some : (b : ℕ) (ps : List (List ℕ)) → Some ps → Some (front b ps)
+front-some : (b : ℕ) (ps : List (List ℕ)) → HasPiece ps → HasPiece (front b ps)
 unfolding front
 front-some b [] h = h
 front-some b (p ∷ ps) h = tt
 
-pub split-some : (c : ℕ) (s : List ℕ) → Some (split c s)
+pub split-some : (c : ℕ) (s : List ℕ) → HasPiece (split c s)
 unfolding split
 split-some c [] = tt
 split-some c (b ∷ s) = go (eqb b c) (front-some b (split c s) (split-some c s))
   where
-    go : (t : Bool) → Some (front b (split c s)) → Some (cond t ([] ∷ split c s) (front b (split c s)))
+    go : (t : Bool) → HasPiece (front b (split c s)) → HasPiece (cond t ([] ∷ split c s) (front b (split c s)))
     go true h = tt
     go false h = h

@@ -2,8 +2,8 @@
 -- (byte 32) stands between fields, and a number is decimal without leading zeros.
 -- Assumes nothing.
 use Rattle.std.specs.Prelude.{cond, List, [], ◌∷◌, ℕ, suc, ◌+◌, ◌*◌, ◌-◌, eqb, ltb}
-use Rattle.text.specs.declared.Num.{Num}
-use Rattle.text.specs.declared.Num.TheVariants.{Bad, Value}
+use Rattle.std.specs.Prelude.{Option}
+use Rattle.std.specs.Prelude.{None, Some}
 
 -- how many bytes stand before the first c
 unfoldable pub before : ℕ → List ℕ → ℕ
@@ -21,19 +21,19 @@ split c [] = [] ∷ []
 split c (b ∷ s) = cond (eqb b c) ([] ∷ split c s) (front b (split c s))
 
 -- the number that the digits v are continued to by the bytes
-unfoldable pub digits_from : ℕ → List ℕ → Num
-digits_from v [] = Value v
+unfoldable pub digits_from : ℕ → List ℕ → Option ℕ
+digits_from v [] = Some v
 digits_from v (b ∷ s) =
-    cond (ltb b 48) Bad
-    (cond (ltb 57 b) Bad
-    (cond (ltb 4294967295 (v * 10 + (b - 48))) Bad (digits_from (v * 10 + (b - 48)) s)))
+    cond (ltb b 48) None
+    (cond (ltb 57 b) None
+    (cond (ltb 4294967295 (v * 10 + (b - 48))) None (digits_from (v * 10 + (b - 48)) s)))
 
 -- a 0 stands alone
-abbrev pub zero_then : List ℕ → Num
-zero_then [] = Value 0
-zero_then (b ∷ s) = Bad
+abbrev pub zero_then : List ℕ → Option ℕ
+zero_then [] = Some 0
+zero_then (b ∷ s) = None
 
 -- decimal without leading zeros, at most 4,294,967,295
-unfoldable pub number_of : List ℕ → Num
-number_of [] = Bad
+unfoldable pub number_of : List ℕ → Option ℕ
+number_of [] = None
 number_of (b ∷ s) = cond (eqb b 48) (zero_then s) (digits_from 0 (b ∷ s))

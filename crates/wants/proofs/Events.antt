@@ -12,7 +12,7 @@ use Rattle.words.proofs.Tests.{at_test, read-choice}
 use Rattle.lists.specs.All.{tab}
 use Rattle.lists.proofs.Laws.{tab-ext}
 use Rattle.allotment.specs.Allotment.{free}
-use Rattle.node.specs.declared.Answer.TheVariants.{Done}
+use Rattle.node.specs.Answers.{Done}
 use Rattle.node.proofs.Tested.{start-asks}
 use Rattle.site.specs.Answers.{area_size}
 use Rattle.site.specs.Members.{setup_of, down_member}

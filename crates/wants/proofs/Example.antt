@@ -18,7 +18,7 @@ use Rattle.node.specs.Close.{complete, level, verdict, due, raised, stayed, clos
 use Rattle.node.specs.Begin.{begun, waiting, start_answer}
 use Rattle.node.specs.Grounds.{first_rule, rule_of}
 use Rattle.node.specs.Steps.{wanted_node}
-use Rattle.node.specs.declared.Answer.TheVariants.{Done}
+use Rattle.node.specs.Answers.{Done}
 use Rattle.wire.specs.Layout.{packet_bytes, packet_in}
 use Rattle.wire.specs.Reads.{packet_ok, packet_answer}
 use Rattle.site.specs.Members.{member_at}

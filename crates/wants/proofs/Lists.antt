@@ -6,8 +6,8 @@ use mathlib.Core.List.{List, [], ◌∷◌, ◌++◌}
 use Prim.Native.Nat.{ℕ}
 use Rattle.words.proofs.Tests.{read_same}
 use Rattle.node.specs.Answers.{is_done}
-use Rattle.node.specs.declared.Answer.{Answer}
-use Rattle.node.specs.declared.Answer.TheVariants.{Done}
+use Rattle.node.specs.Answers.{Answer}
+use Rattle.node.specs.Answers.{Done}
 use Rattle.node.specs.declared.Packet.{Packet}
 use Rattle.node.proofs.Answers.{done-is}
 use Rattle.site.specs.Answers.{answer_of}

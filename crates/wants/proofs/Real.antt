@@ -17,7 +17,7 @@ use Rattle.node.specs.Negotiation.{opened, packet_of, merges, noted, joined, int
 use Rattle.node.specs.Close.{complete, level, verdict, due, raised, stayed, closed_node, close_answer}
 use Rattle.node.specs.Begin.{begun, waiting, start_answer}
 use Rattle.node.specs.Grounds.{first_rule, rule_of}
-use Rattle.node.specs.declared.Answer.TheVariants.{NoRoom}
+use Rattle.node.specs.Answers.{NoRoom}
 use Rattle.wire.specs.Layout.{packet_bytes, packet_in}
 use Rattle.wire.specs.Reads.{packet_ok, packet_answer}
 use Rattle.site.specs.Load.{row_ok, table_ok, load_answer, loaded_member, loaded_site}
@@ -28,7 +28,7 @@ use Rattle.text.specs.Ascii.{ascii}
 use Rattle.text.specs.Read.{front, split, digits_from, number_of}
 use Rattle.text.specs.Write.{digits_of}
 use Rattle.script.specs.lines.Lines.{on_line}
-use Rattle.script.specs.lines.Fields.{two_of, three_of, four_of, five_of}
+use Rattle.script.specs.lines.Fields.{numbers_of}
 use Rattle.script.specs.load.Opening.{got, opening, names_line, settings_line, table_lines}
 use Rattle.script.specs.events.Events.{number_from, fields_of}
 use Rattle.windows.specs.Windows.{list_ok, has_windows, demand_at, due_at}
@@ -44,7 +44,7 @@ fitting : unfit pair_script area ≡ false
 fitting = refl
 
 opened-so : opening (split 10 pair_script) ≡ got pair_opening pair_lines
-unfolding opening names_line on_line split front same settings_line table_lines config_ok five_of four_of three_of two_of number_of digits_from
+unfolding opening names_line on_line split front same settings_line table_lines config_ok numbers_of number_of digits_from
     row_ok start_answer flags_ok
 opened-so = refl
 
@@ -54,7 +54,7 @@ day-so = refl
 
 told-so : (reason_lines 1 example_windows (loaded_state 2 example_windows pair_opening area) 7 pair_lines ≡ ascii "9 1 sent 0\n")
     × (reason_lines 2 example_windows (loaded_state 2 example_windows pair_opening area) 7 pair_lines ≡ ascii "9 2 missing 1\n")
-unfolding reason_lines reason reason_of digits_of fields_of number_from split front number_of digits_from two_of member_report
+unfolding reason_lines reason reason_of digits_of fields_of number_from split front number_of digits_from numbers_of member_report
     report_of first_rule rule_of
     first_with lowest_missing site_after area_after answer_of site_send answer_part site_hear site_close sent_site sent_area heard_site closed_site
     loaded_site loaded_member given_table timed_load_answer load_answer table_ok row_ok start_answer config_ok flags_ok list_ok

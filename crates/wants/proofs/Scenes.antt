@@ -13,9 +13,9 @@ use Rattle.node.specs.Negotiation.{in_negotiation}
 use Rattle.node.specs.Distribution.{may_take}
 use Rattle.node.specs.Begin.{waiting}
 use Rattle.node.specs.declared.Packet.{Packet}
-use Rattle.node.specs.declared.Answer.{Answer}
-use Rattle.node.specs.declared.Answer.TheVariants.{Done, OutOfRange, NoSuchNode, WrongPhase, NotLive, NotDown, TooManyPackets}
-use Rattle.node.specs.declared.Answer.TheVariants.{NoSuchPacket, OwnPacket, WrongSender, NoRoom}
+use Rattle.node.specs.Answers.{Answer}
+use Rattle.node.specs.Answers.{Done, OutOfRange, NoSuchNode, WrongPhase, NotLive, NotDown, TooManyPackets}
+use Rattle.node.specs.Answers.{NoSuchPacket, OwnPacket, WrongSender, NoRoom}
 use Rattle.site.specs.Counts.{top_sent, sent_of, packets, none_sent, one_more}
 use Rattle.site.specs.Members.{nobody, setup_of, outside, down_member}
 use Rattle.site.specs.Answers.{area_size}
@@ -24,8 +24,9 @@ use Rattle.node.specs.declared.Config.{Config}
 use Rattle.site.specs.Model.{Site}
 use Rattle.site.specs.declared.Event.{Event}
 use Rattle.site.specs.declared.Event.TheVariants.{Send, Hear, Close, Take, End, Want, Crash, Restart}
-use Rattle.machine.specs.reports.Reports.{no_node_report, closes_with}
-use Rattle.machine.specs.declared.NodeReport.{NodeReport}
+use Rattle.machine.specs.reports.Reports.{closes_with}
+use Rattle.std.specs.Prelude.{Option, Some, None}
+use Rattle.node.specs.declared.Ground.{Ground}
 use Rattle.machine.specs.declared.Report.{Report}
 use Rattle.histories.proofs.Sound.{no_packet}
 use Rattle.node.specs.Outline.{outline_of}
@@ -158,8 +159,8 @@ after_by c e = cond (is_done (answer_by c e)) (next_by c e) c
 
 -- Reports
 
-unfoldable pub told_for : Bool → MemberOutline → NodeReport
-told_for accepted m = cond (accepted && live_by m) (record { live = true; grounds = ground_by m.node }) no_node_report
+unfoldable pub told_for : Bool → MemberOutline → Option Ground
+told_for accepted m = cond (accepted && live_by m) (Some (ground_by m.node)) None
 
 unfoldable pub report_for : Bool → List MemberOutline → Report
 report_for accepted ms = record { nodes = tab 32 (λ i. told_for accepted (get_or ms i (member_outline nobody))) }

@@ -6,7 +6,7 @@ use mathlib.Core.List.{List, [], ◌∷◌, ◌++◌}
 use Prim.Native.Nat.{ℕ, ◌+◌}
 use Rattle.words.proofs.Tests.{hit, or-back}
 use Rattle.text.specs.Read.{split}
-use Rattle.node.specs.declared.Answer.TheVariants.{Done, NoRoom}
+use Rattle.node.specs.Answers.{Done, NoRoom}
 use Rattle.site.specs.Events.{is_end}
 use Rattle.site.specs.Load.{load_answer}
 use Rattle.site.specs.Run.{RunState, after, run}
@@ -22,8 +22,8 @@ use Rattle.histories.specs.Reached.{begin}
 use Rattle.agreement.proofs.daily.Theorem.{plain_of}
 use Rattle.agreement.proofs.daily.Loads.{given-loads}
 use Rattle.script.specs.events.Events.{event_of}
-use Rattle.script.specs.declared.Parsed.{Parsed}
-use Rattle.script.specs.declared.Parsed.TheVariants.{Malformed, Good as good}
+use Rattle.std.specs.Prelude.{Option}
+use Rattle.std.specs.Prelude.{None, Some as good}
 use Rattle.script.specs.load.Opening.{Reading, got, Opening, opening}
 use Rattle.script.proofs.load.Outcome.{opening-loads}
 use Rattle.desk.specs.reasons.Reasons.{reason_of, line_report}
@@ -44,21 +44,21 @@ report-at f t d area w a e =
     (λ x n. report-is w.site w.area a.air x (answer_at f t d area w a x n)) e
 
 -- a plain run after a line
-abbrev plain_after : RunState → Parsed → RunState
-plain_after v Malformed = v
+abbrev plain_after : RunState → (Option Event) → RunState
+plain_after v None = v
 plain_after v (good x) = after v x
 
 module _ (f : Config) (t u : Table) (d : load_answer f t ≡ Done) (e : load_answer f u ≡ Done) (area : List ℕ) (D : ℕ) (ws : List Window)
     (ok : list_ok f.nodes D ws ≡ true) (v : RunState) (w : TimedState) (b : Beside f t u e area D v w) where
-  same_line : (p : Parsed) → line_report v.site v.area p ≡ line_report w.timed.site w.area p
-  same_line Malformed = refl
+  same_line : (p : (Option Event)) → line_report v.site v.area p ≡ line_report w.timed.site w.area p
+  same_line None = refl
   same_line (good x) =
       report-at f t d area v b.at x ∙ ap (λ (c : Scene). report_in c x) b.scene
       ∙ sym (report-at f u e area (plain_of w) b.stands.at x)
 
-  next-line : (p : Parsed) → Beside f t u e area D (plain_after v p) (desk.line_after ws w p)
+  next-line : (p : (Option Event)) → Beside f t u e area D (plain_after v p) (desk.line_after ws w p)
   unfolding run
-  next-line Malformed = b
+  next-line None = b
   next-line (good x) =
       let m = (follow f t d area v b.at (x ∷ [])).moved in
       let k = desk.call_of ws x in

@@ -17,9 +17,9 @@ use Rattle.node.specs.Negotiation.{packet_of, heard_node}
 use Rattle.node.specs.Steps.{close_outcome, end_outcome}
 use Rattle.node.specs.declared.Packet.{Packet}
 use Rattle.node.specs.declared.Ground.{Ground}
-use Rattle.node.specs.declared.Answer.{Answer}
-use Rattle.node.specs.declared.Answer.TheVariants.{Done, NoSuchNode, WrongPhase, NotLive, TooManyPackets, NoSuchPacket, OwnPacket}
-use Rattle.node.specs.declared.Answer.TheVariants.{WrongSender, NoRoom}
+use Rattle.node.specs.Answers.{Answer}
+use Rattle.node.specs.Answers.{Done, NoSuchNode, WrongPhase, NotLive, TooManyPackets, NoSuchPacket, OwnPacket}
+use Rattle.node.specs.Answers.{WrongSender, NoRoom}
 use Rattle.range.proofs.Ranges.{ranges}
 use Rattle.range.proofs.Laws as ranged
 use Rattle.wire.specs.Reads.{has_part}
@@ -38,7 +38,8 @@ use Rattle.site.proofs.Steps.{hear-as}
 use Rattle.site.proofs.Accepted.{answered, send-accepted, hear-accepted, close-accepted, take-accepted, end-accepted, want-accepted}
 use Rattle.site.proofs.Accepted.{restart-accepted, Acts}
 use Rattle.node.proofs.Bounds.{bounds}
-use Rattle.machine.specs.reports.Reports.{no_node_report, member_report, report_of, closes_with}
+use Rattle.std.specs.Prelude.{Some, None}
+use Rattle.machine.specs.reports.Reports.{member_report, report_of, closes_with}
 use Rattle.histories.specs.Hearing.{plain_hear, sender_of}
 use Rattle.histories.proofs.Members.{live-up}
 use Rattle.histories.proofs.Sound.{Sound, no_packet, part-packet, hear-is, send-room, send-sound, hear-sound, close-sound, take-sound}
@@ -128,7 +129,7 @@ module _ (s : Site) (area : List ℕ) (air : List Packet) (h : Sound s area air)
 
 told_is : (t : Bool) (m : Member) → member_report t m ≡ told_for t (member_outline m)
 unfolding member_report told_for
-told_is t m = ap (λ (g : Ground). cond (t && is_live m) (record { live = true; grounds = g }) no_node_report) (grounds m.node)
+told_is t m = ap (λ (g : Ground). cond (t && is_live m) (Some g) None) (grounds m.node)
 
 pub report-of : (t : Bool) (ms : List Member) → report_of t ms ≡ report_for t (map member_outline ms)
 unfolding report_of report_for

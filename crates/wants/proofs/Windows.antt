@@ -8,8 +8,8 @@ use lib.ListN.{length, get_or}
 use Rattle.words.proofs.Tests.{hit, read_same, and_left, and_right, or-rest}
 use Rattle.lists.proofs.Laws.{get_d-tab}
 use Rattle.node.specs.Answers.{is_done}
-use Rattle.node.specs.declared.Answer.{Answer}
-use Rattle.node.specs.declared.Answer.TheVariants.{Done, BadWindows}
+use Rattle.node.specs.Answers.{Answer}
+use Rattle.node.specs.Answers.{Done, BadWindows}
 use Rattle.node.proofs.Answers.{done-is}
 use Rattle.site.specs.Answers.{answer_of}
 use Rattle.site.specs.Events.{is_close, is_end}

@@ -2,11 +2,10 @@
 -- other way round. The demands differ in the tables, by wants and by windows, and so do the schedules; the reports are the same.
 -- proofs/Example.antt computes it by the definitions.
 -- Assumes nothing.
-use Rattle.std.specs.Prelude.{◌≡◌, true, List, [], ◌∷◌, map, ℕ, get_or, take, replicate}
+use Rattle.std.specs.Prelude.{◌≡◌, true, None, List, [], ◌∷◌, map, ℕ, get_or, take, replicate}
 use Rattle.allotment.specs.Allotment.{owners_of}
-use Rattle.node.specs.Grounds.{rule_number}
 use Rattle.node.specs.Model.{Node}
-use Rattle.node.specs.declared.Answer.TheVariants.{Done}
+use Rattle.node.specs.Answers.{Done}
 use Rattle.site.specs.Answers.{area_size}
 use Rattle.site.specs.Load.{load_answer}
 use Rattle.site.specs.Members.{member_at}
@@ -15,7 +14,7 @@ use Rattle.node.specs.declared.Config.{Config}
 use Rattle.site.specs.declared.Table.{Table}
 use Rattle.site.specs.declared.Event.{Event}
 use Rattle.site.specs.declared.Event.TheVariants.{Send, Hear, Close, Want}
-use Rattle.machine.specs.reports.Reports.{no_node_report}
+use Rattle.machine.specs.reports.Reports.{report_byte}
 use Rattle.machine.specs.declared.Report.{Report}
 use Rattle.histories.specs.Reached.{begin}
 use Rattle.windows.specs.declared.Window.{Window}
@@ -53,7 +52,7 @@ lent_calls = map (λ (e : Event). record { event = e; windows = example_windows 
 
 -- the rule's number and the missing node of nodes 1 and 2
 abbrev pub rule_in : Report → ℕ → List ℕ
-rule_in r i = rule_number (get_or r.nodes i no_node_report).grounds.rule ∷ (get_or r.nodes i no_node_report).grounds.missing ∷ []
+rule_in r i = report_byte (get_or r.nodes i None) 0 ∷ report_byte (get_or r.nodes i None) 1 ∷ []
 
 abbrev pub rules_in : List Report → List (List (List ℕ))
 rules_in rs = map (λ (r : Report). rule_in r 0 ∷ rule_in r 1 ∷ []) rs

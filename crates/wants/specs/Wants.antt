@@ -4,8 +4,8 @@
 -- requests and schedules. So it is of a list of calls with windows and of the same events without them. `split` may be 0 or 1.
 -- Assumes nothing.
 use Rattle.std.specs.Prelude.{◌≡◌, Bool, true, false, not, cond, ◌&&◌, ◌||◌, List, [], ◌∷◌, map, ℕ, ◌<◌, get_or}
-use Rattle.node.specs.declared.Answer.{Answer}
-use Rattle.node.specs.declared.Answer.TheVariants.{Done}
+use Rattle.node.specs.Answers.{Answer}
+use Rattle.node.specs.Answers.{Done}
 use Rattle.site.specs.Answers.{answer_of}
 use Rattle.site.specs.Events.{is_close, is_end}
 use Rattle.site.specs.Load.{no_row, load_answer}

@@ -1,9 +1,11 @@
 -- Bytes counted, from the front.
 -- Assumes nothing.
-use mathlib.Core.Path.{◌≡◌, sym, ap, ◌∙◌, subst}
+use mathlib.Core.Path.{◌≡◌, refl, sym, ap, ◌∙◌}
+use Rattle.std.specs.Prelude.{count_by}
+use Rattle.std.proofs.lemmas.List.Recursion.{is_count_by}
 use mathlib.Core.Bool.{Bool, true, false, cond}
 use mathlib.Core.List.{List, [], ◌∷◌}
-use Prim.Native.Nat.{ℕ, ◌+◌, ◌-◌, ◌≤◌, ◌<◌}
+use Prim.Native.Nat.{ℕ, ◌+◌, ◌-◌}
 use native.Mathlib.Omega.{arith}
 use native.Mathlib.Numerals.{add-one}
 use lib.Dec.{eqb}
@@ -13,24 +15,14 @@ use Rattle.text.specs.Read.{before}
 use Rattle.text.proofs.Pieces.{behind, behind-is}
 use Rattle.why.specs.Refused.{one, byte_count, under, refused_in}
 
-pub count-end : (c : ℕ) (s : List ℕ) (i : ℕ) → length s ≤ i → byte_count c (drop i s) ≡ 0
+-- the bytes that std counts
+pub counts : (c : ℕ) (s : List ℕ) → byte_count c s ≡ count_by (λ b. eqb b c) s
 unfolding byte_count
-count-end c s i h = rw (drop_of_length-le s h)
-
-pub count-front : (c : ℕ) (s : List ℕ) (i : ℕ) → i < length s → byte_count c (drop i s) ≡ one c (get_or s i 0) + byte_count c (drop (i + 1) s)
-unfolding byte_count
-count-front c s i h = rw (add-one, drop-cons s i 0 h)
-
-one-le : (c b : ℕ) → one c b ≤ 1
-one-le c b = go (eqb b c)
+counts c s = is_count_by (byte_count c) (λ b. eqb b c) refl (λ b r. go (eqb b c) (byte_count c r)) s
   where
-    go : (t : Bool) → cond t 1 0 ≤ 1
-    go true = omega arith
-    go false = omega arith
-
--- what `one_of` gives
-pub small : (r c b : ℕ) → r ≡ one c b → r ≤ 1
-small r c b e = subst (λ (k : ℕ). k ≤ 1) (sym e) (one-le c b)
+    go : (t : Bool) (n : ℕ) → cond t 1 0 + n ≡ cond t (1 + n) n
+    go true n = refl
+    go false n = omega arith
 
 -- what `refused_lines` finds, step by step, is the definition's number
 pub counted : (l : List ℕ) (h e n : ℕ) → h ≡ before 10 l → e ≡ before 110 (behind h l) → n ≡ byte_count 10 (take e (behind h l)) → n - 1

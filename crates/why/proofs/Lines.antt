@@ -13,8 +13,8 @@ use Rattle.text.specs.Ascii.{ascii}
 use Rattle.text.specs.Read.{before, split}
 use Rattle.text.specs.Write.{digits_of, decimal}
 use Rattle.node.specs.Answers.{number, is_done}
-use Rattle.node.specs.declared.Answer.{Answer}
-use Rattle.node.specs.declared.Answer.TheVariants.{NoRoom, BadWindows}
+use Rattle.node.specs.Answers.{Answer}
+use Rattle.node.specs.Answers.{NoRoom, BadWindows}
 use Rattle.windows.specs.Windows.{list_ok}
 use Rattle.machine.specs.timed.Calls.{TimedState}
 use Rattle.script.specs.events.Events.{event_of}

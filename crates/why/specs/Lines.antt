@@ -3,7 +3,7 @@
 use Rattle.std.specs.Prelude.{◌≡◌, false, cond, List, [], ◌∷◌, ℕ, ◌+◌}
 use Rattle.text.specs.Read.{split}
 use Rattle.node.specs.Answers.{is_done}
-use Rattle.node.specs.declared.Answer.{Answer}
+use Rattle.node.specs.Answers.{Answer}
 use Rattle.machine.specs.timed.Calls.{TimedState}
 use Rattle.script.specs.events.Events.{event_of}
 use Rattle.script.specs.load.Opening.{Opening, opening, got}

@@ -1,23 +1,20 @@
--- Laws of windows: a list that keeps the rules, what is due in an epoch, and that the copy of a lent list tells all that is asked of it.
+-- Laws of windows: a list that keeps the rules, and what is due in an epoch.
 -- Assumes nothing.
 use mathlib.Core.Path.{◌≡◌, refl, sym, ap, ◌∙◌, subst}
 use mathlib.Core.Bool.{Bool, true, false, not, cond, ◌&&◌}
 use mathlib.Core.List.{List}
 use Prim.Native.Nat.{ℕ, suc, ◌≤◌, ◌<◌}
 use native.Mathlib.Omega.{arith}
-use borrow.Author.Tests.{eq-eqb, lt-ltb, lt-leb, eqb-true, ltb-true, leb-true, ltb-false}
+use borrow.Author.Tests.{eq-eqb, lt-ltb, le-leb, eqb-true, ltb-true, leb-true, ltb-false}
 use lib.Dec.{eqb, ltb, leb}
-use lib.ListN.{length, length-take}
-use lib.Seq.{take_all}
-use Rattle.words.proofs.Tests.{never, clash, by-test, same_or_not, hit, skip, is_false, only_if, both, and_left, and_right}
-use Rattle.lists.specs.All.{iter, all_below}
+use lib.ListN.{length}
+use Rattle.words.proofs.Tests.{never, clash, by-test, same_or_not, hit, skip, is_false, both, and_left, and_right}
+use Rattle.lists.specs.All.{all_below}
 use Rattle.lists.proofs.Laws.{iter-inv, all-at, all-make}
 use Rattle.allotment.specs.Allotment.{top_request}
 use Rattle.windows.specs.Windows.{top_windows, window_at, day_ok, window_ok, overlap, entry_ok, list_ok, has_windows, is_due, demand_at, due_at}
-use Rattle.windows.specs.Copies.{places, copy_of, list_of}
 use Rattle.windows.specs.Rules.{Rules}
 use Rattle.windows.specs.declared.Window.{Window}
-use Rattle.windows.proofs.Copies.{copy_is}
 
 -- what it is for a list to keep the rules
 pub record Good (N D : ℕ) (ws : List Window) : Type 0 where
@@ -149,18 +146,13 @@ too_many N D ws l = is_false _ (λ h. absurd (omega (
       (and_left (leb (length ws) top_windows) _ (and_right (day_ok D) _ h)),
 )))
 
--- the copy of at most 64 windows stands for the list
-pub copy-whole : (ws : List Window) → length ws ≤ top_windows → list_of (copy_of ws) ≡ ws
-copy-whole ws l = copy_is ws ∙ take_all places ws (omega (arith, l))
+-- of at most 64 windows: the day decides first, and then each window
+pub not_day : (N D : ℕ) (ws : List Window) → day_ok D ≡ false → false ≡ list_ok N D ws
+unfolding list_ok
+not_day N D ws h = ap (λ (t : Bool). t && (leb (length ws) top_windows && all_below (length ws) (entry_ok N D ws))) (sym h)
 
--- and that of more is refused as the list is
-pub copy-long : (N D : ℕ) (ws : List Window) → top_windows < length ws → list_ok N D (list_of (copy_of ws)) ≡ false
-copy-long N D ws l = too_many N D _ (omega (arith, l, ap length (copy_is ws), length-take places ws))
-
--- the test of a copy is that of the lent list
-pub seen-ok : (N D : ℕ) (ws : List Window) → list_ok N D (list_of (copy_of ws)) ≡ list_ok N D ws
-seen-ok N D ws = go (ltb top_windows (length ws)) refl
-  where
-    go : (t : Bool) → ltb top_windows (length ws) ≡ t → list_ok N D (list_of (copy_of ws)) ≡ list_ok N D ws
-    go true h = copy-long N D ws (ltb-true _ _ h) ∙ sym (too_many N D ws (ltb-true _ _ h))
-    go false h = ap (list_ok N D) (copy-whole ws (ltb-false _ _ h))
+pub of-day : (N D : ℕ) (ws : List Window) → length ws ≤ top_windows → day_ok D ≡ true → all_below (length ws) (entry_ok N D ws) ≡ list_ok N D ws
+unfolding list_ok
+of-day N D ws l h =
+    ap (λ (t : Bool). t && all_below (length ws) (entry_ok N D ws)) (sym (le-leb (length ws) top_windows l))
+    ∙ ap (λ (t : Bool). t && (leb (length ws) top_windows && all_below (length ws) (entry_ok N D ws))) (sym h)

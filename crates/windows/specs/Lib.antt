@@ -1,5 +1,4 @@
--- Demands by the hour: windows of a day, and windows in words.
+-- Demands by the hour: windows of a day.
 pub mod Windows
-pub mod Copies
 pub mod Rules
 pub mod Inner

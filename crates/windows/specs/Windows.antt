@@ -1,10 +1,9 @@
 -- Specification, 3.7 Demands by the hour: a day has D epochs, and a list of windows says which demand a node has in which of them.
 -- Assumes nothing.
-use Rattle.std.specs.Prelude.{Bool, not, cond, ◌&&◌, List, ℕ, ◌+◌, eqb, ltb, leb, length, get_or}
+use Rattle.std.specs.Prelude.{Bool, Option, Some, None, not, cond, ◌&&◌, List, ℕ, ◌+◌, eqb, ltb, leb, length, get_or}
 use Rattle.lists.specs.All.{iter, tab, all_below}
 use Rattle.allotment.specs.Allotment.{top_request}
 use Rattle.windows.specs.declared.Window.{Window}
-use Rattle.windows.specs.declared.Looked.{Looked}
 
 -- the most windows of a list, and the most epochs of a day
 abbrev pub top_windows : ℕ
@@ -65,6 +64,6 @@ due_at ws j e d = cond (has_windows ws j) (demand_at ws j e) d
 unfoldable pub due_all : List Window → ℕ → ℕ → List ℕ
 due_all ws e d = tab 32 (λ i. due_at ws (i + 1) e d)
 
--- what a box asks of a list: whether it keeps the rules, and the demand, which stays where it does not
-abbrev pub looked_of : ℕ → ℕ → List Window → ℕ → ℕ → ℕ → Looked
-looked_of N D ws j e d = record { ok = list_ok N D ws; demand = cond (list_ok N D ws) (due_at ws j e d) d }
+-- what a box asks of a list: the demand, where it keeps the rules
+abbrev pub looked_of : ℕ → ℕ → List Window → ℕ → ℕ → ℕ → Option ℕ
+looked_of N D ws j e d = cond (list_ok N D ws) (Some (due_at ws j e d)) None

@@ -24,7 +24,7 @@ use Rattle.node.specs.Figures.{top_version}
 use Rattle.node.specs.declared.Packet.{Packet}
 use Rattle.node.specs.Model.{Versioned}
 use Rattle.node.specs.declared.Setup.{Setup}
-use Rattle.node.specs.declared.Answer.TheVariants.{Done, WrongLength, BadContents}
+use Rattle.node.specs.Answers.{Done, WrongLength, BadContents}
 use Rattle.wire.specs.Layout.{packet_size, schedule_size, packet_bytes, packet_in, schedule_bytes, schedule_in}
 use Rattle.wire.specs.Reads.{read_answer, packet_ok, packet_answer, versioned_ok, schedule_answer, part_of, placed, has_part}
 

@@ -1,6 +1,6 @@
 -- Specification, 5 Bytes on the air: what is accepted, and the refusals 11 and 12.
 -- Assumes nothing.
-use Rattle.std.specs.Prelude.{Bool, not, cond, ◌&&◌, List, ℕ, ◌+◌, ◌*◌, ◌^◌, eqb, ltb, leb, length}
+use Rattle.std.specs.Prelude.{Bool, not, cond, ◌&&◌, List, Result, ℕ, ◌+◌, ◌*◌, ◌^◌, eqb, ltb, leb, length}
 use Rattle.words.specs.Bits.{is_in}
 use Rattle.lists.specs.Bytes.{span, written}
 use Rattle.membership.specs.requests.Requests.{entry_of, requests_within, none}
@@ -9,10 +9,10 @@ use Rattle.range.specs.Range.{schedule_ok}
 use Rattle.node.specs.declared.Setup.{Setup}
 use Rattle.node.specs.declared.Packet.{Packet}
 use Rattle.node.specs.Model.{Versioned}
-use Rattle.node.specs.declared.Answer.{Answer}
-use Rattle.node.specs.declared.Answer.TheVariants.{Done, WrongLength, BadContents}
+use Rattle.node.specs.Answers.{Answer, answered}
+use Rattle.node.specs.Answers.{Done, WrongLength, BadContents}
 use Rattle.wire.specs.Layout.{packet_size, schedule_size, packet_bytes, packet_in, schedule_in}
-use Rattle.wire.specs.declared.PacketRead.{PacketRead}
+use Rattle.node.specs.declared.Refusal.{Refusal}
 
 -- the sender is 1 to N and has a flag and a request; lowest ≤ highest ≤ the top version; no flag from N up; no request without its flag
 unfoldable pub packet_ok : ℕ → Packet → Bool
@@ -29,8 +29,9 @@ read_answer sized good = cond sized (cond good Done BadContents) WrongLength
 unfoldable pub packet_answer : ℕ → List ℕ → Answer
 packet_answer N l = read_answer (eqb (length l) packet_size) (packet_ok N (packet_in l))
 
-abbrev pub packet_read : ℕ → List ℕ → PacketRead
-packet_read N l = record { answer = packet_answer N l; packet = packet_in l }
+-- the packet in bytes that were accepted
+abbrev pub packet_read : ℕ → List ℕ → Result Packet Refusal
+packet_read N l = answered (packet_answer N l) (packet_in l)
 
 -- each owner is 0 to N; a slot beyond K is free, and so is every slot at version 0
 unfoldable pub versioned_ok : Setup → Versioned → Bool

@@ -50,5 +50,5 @@ pub fn inside(a: u32, b: u32) -> bool
 pub fn all(n: u32) -> u32
     ensures { result ≡ all_of n }
 {
-    if n < 32 { (1 << n) - 1 } else { 4294967295 }
+    if n < 32 { (1 << n) - 1 } else { u32::MAX }
 }

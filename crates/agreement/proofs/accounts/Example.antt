@@ -16,7 +16,7 @@ use Rattle.node.specs.Begin.{begun, waiting, start_answer}
 use Rattle.node.specs.Negotiation.{opened}
 use Rattle.node.specs.Close.{complete, level, verdict, due, raised, stayed, closed_node, close_answer}
 use Rattle.node.specs.End.{next_round, waits_on, next_epoch, ended_node, end_answer}
-use Rattle.node.specs.declared.Answer.TheVariants.{Done}
+use Rattle.node.specs.Answers.{Done}
 use Rattle.membership.specs.requests.Requests.{requesters, requests_within}
 use Rattle.site.specs.Answers.{area_size, answer_of, site_close, site_end}
 use Rattle.site.specs.Load.{no_row, row_ok, table_ok, load_answer, loaded_site, loaded_member}

@@ -14,7 +14,7 @@ use Rattle.lists.proofs.Laws.{get_d-tab, get_d-zeros}
 use Rattle.allotment.specs.Allotment.{owner_of, owners_of, schedule_of, no_schedule, free}
 use Rattle.allotment.specs.Model.{Schedule}
 use Rattle.range.proofs.Laws.{zero-free}
-use Rattle.node.specs.declared.Answer.TheVariants.{Done}
+use Rattle.node.specs.Answers.{Done}
 use Rattle.site.specs.Members.{nobody, member_at, is_live}
 use Rattle.site.specs.Load.{load_answer}
 use Rattle.site.specs.Run.{run}

@@ -7,8 +7,8 @@ use mathlib.Core.List.{List, [], ◌∷◌, ◌++◌}
 use borrow.Author.Tests.{not-true}
 use Rattle.words.proofs.Tests.{skip, clash, and_left, and_right}
 use Rattle.node.specs.Answers.{is_done}
-use Rattle.node.specs.declared.Answer.{Answer}
-use Rattle.node.specs.declared.Answer.TheVariants.{Done, NotANode}
+use Rattle.node.specs.Answers.{Answer}
+use Rattle.node.specs.Answers.{Done, NotANode}
 use Rattle.site.specs.Answers.{answer_of}
 use Rattle.site.specs.Events.{is_end}
 use Rattle.site.specs.Steps.{site_after, area_after, next_site, next_area}

@@ -9,7 +9,7 @@ use Rattle.lists.specs.All.{iter, all_below, tab}
 use Rattle.words.specs.Bits.{is_in}
 use Rattle.node.specs.Figures.{config_ok, flags_ok}
 use Rattle.node.specs.Begin.{start_answer}
-use Rattle.node.specs.declared.Answer.TheVariants.{Done}
+use Rattle.node.specs.Answers.{Done}
 use Rattle.site.specs.Load.{no_row, row_ok, table_ok, load_answer}
 use Rattle.node.specs.declared.Config.{Config}
 use Rattle.site.specs.declared.Table.{Table}

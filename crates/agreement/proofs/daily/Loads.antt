@@ -13,7 +13,7 @@ use Rattle.lists.proofs.Laws.{all-at, all-make, get_d-tab}
 use Rattle.allotment.specs.Allotment.{top_request}
 use Rattle.node.specs.Answers.{is_done}
 use Rattle.node.specs.Begin.{start_answer}
-use Rattle.node.specs.declared.Answer.TheVariants.{Done, OutOfRange, BadWindows}
+use Rattle.node.specs.Answers.{Done, OutOfRange, BadWindows}
 use Rattle.node.specs.declared.Setup.{Setup}
 use Rattle.node.proofs.Answers.{test-met, both-done, done-is}
 use Rattle.node.proofs.Tested.{start-asks, start-done}

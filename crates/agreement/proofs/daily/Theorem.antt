@@ -8,7 +8,7 @@ use lib.ListN.{length}
 use Rattle.words.proofs.Tests.{hit, skip, by-test}
 use Rattle.lists.proofs.Laws.{length-tab}
 use Rattle.node.specs.Answers.{is_done}
-use Rattle.node.specs.declared.Answer.TheVariants.{Done, BadWindows}
+use Rattle.node.specs.Answers.{Done, BadWindows}
 use Rattle.node.proofs.Answers.{done-is}
 use Rattle.site.specs.Load.{loaded_member, loaded_site}
 use Rattle.site.specs.Answers.{area_size, site_end, answer_of}

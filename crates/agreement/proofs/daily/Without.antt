@@ -11,7 +11,7 @@ use Rattle.lists.specs.All.{all_below, tab}
 use Rattle.lists.proofs.Laws.{tab-ext, get_d-tab}
 use Rattle.node.specs.Answers.{is_done}
 use Rattle.node.specs.Begin.{starting}
-use Rattle.node.specs.declared.Answer.TheVariants.{Done}
+use Rattle.node.specs.Answers.{Done}
 use Rattle.node.proofs.Answers.{done-is}
 use Rattle.site.specs.Load.{no_row, load_answer, loaded_member, loaded_site}
 use Rattle.site.specs.Members.{setup_of, down_member}

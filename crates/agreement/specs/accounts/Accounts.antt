@@ -6,7 +6,7 @@ use Rattle.std.specs.Prelude.{◌≡◌, Bool, true, not, cond, ◌&&◌, List, 
 use Rattle.words.specs.Bits.{digit}
 use Rattle.node.specs.Answers.{is_done}
 use Rattle.node.specs.Figures.{is_last}
-use Rattle.node.specs.declared.Answer.TheVariants.{Done}
+use Rattle.node.specs.Answers.{Done}
 use Rattle.site.specs.Answers.{answer_of}
 use Rattle.site.specs.Load.{load_answer, loaded_site}
 use Rattle.site.specs.Events.{is_end}

@@ -5,7 +5,7 @@
 use Rattle.std.specs.Prelude.{◌≡◌, true, false, cond, ◌&&◌, ℕ, zero, suc, ◌+◌, ◌≤◌, length}
 use mathlib.Core.List.{List, [], ◌∷◌, ◌++◌, Memᴰ}
 use Rattle.node.specs.Answers.{is_done}
-use Rattle.node.specs.declared.Answer.TheVariants.{Done}
+use Rattle.node.specs.Answers.{Done}
 use Rattle.site.specs.Answers.{area_size, answer_of}
 use Rattle.site.specs.Load.{load_answer, loaded_site}
 use Rattle.site.specs.Events.{is_end}

@@ -8,4 +8,5 @@ use Rattle.allotment.proofs.choose.Given as goal
 
 abbrev pub invariant-loop-i : goal.invariant-loop-i
 invariant-loop-i l =
-    (l.i ≤ l.n) × (l.n ≤ 32) × (l.best ≡ best_of l.target (holding l.held) l.i) × ((l.best ≡ 0) ⊎ (l.least ≡ get_or l.held (l.best - 1) 0))
+    (l.fn.n ≤ 32) × (l.best ≡ best_of l.fn.target (holding l.fn.held) l.i)
+    × ((l.best ≡ 0) ⊎ (l.least ≡ get_or l.fn.held (l.best - 1) 0))

@@ -1,6 +1,6 @@
 use mathlib.Core.List.{List}
 use mathlib.Core.Path.{◌≡◌, ap, ◌∙◌}
-use Prim.Native.Nat.{ℕ, ◌-◌}
+use Prim.Native.Nat.{ℕ}
 use native.Mathlib.Omega.{arith}
 use lib.ListN.{replicate}
 use Rattle.lists.specs.All.{iter}
@@ -28,12 +28,6 @@ returns-then-s-left c =
     let w = c.args.wanted in
     rounds-end w _ l.s _ l.counter top_request l.invariant.0 l.invariant.1 c.deal_round-s.ensures c.if-s-left.true
     ∙ from-slots w _ _ c.slots.ensures
-
-pub overflow_step : goal.overflow_step
-overflow_step c = omega arith
-
-pub loop-smaller : goal.loop-smaller
-loop-smaller c = omega arith
 
 pub loop-preserved : goal.loop-preserved
 loop-preserved c = (omega arith, iter-more _ _ _ _ _ c.loop.invariant.1 c.deal_round-s.ensures)

@@ -1,4 +1,4 @@
-use Prim.Native.Nat.{◌≤◌, ◌-◌}
+use Prim.Native.Nat.{◌≤◌}
 use Rattle.allotment.proofs.Turns.{At}
 use Rattle.allotment.proofs.turn.Given as goal
 

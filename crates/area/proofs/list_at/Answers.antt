@@ -1,29 +1,18 @@
-use Rattle.lists.proofs.Laws.{fill_none, fill_more, fill_end}
-use mathlib.Core.Path.{refl}
-use Prim.Native.Nat.{◌-◌}
+use mathlib.Core.Path.{◌≡◌, sym, ap, ◌∙◌}
+use Prim.Native.Nat.{◌≤◌, ◌-◌}
 use native.Mathlib.Omega.{arith}
+use borrow.Author.Rules.{rules}
+use lib.ListN.{length, take, drop, length-drop}
+use lib.Seq.{take_all}
+use Rattle.area.specs.Area.{node_size}
+use Rattle.lists.proofs.Laws.{window-span}
 use Rattle.area.proofs.list_at.Goals as goal
 
-pub loop-i-init : goal.loop-i-init
-loop-i-init c = (omega arith, fill_none _ _)
-
-pub overflow_add-l : goal.overflow_add-l
-overflow_add-l c = omega arith
-
-pub bounds-s-from : goal.bounds-s-from
-bounds-s-from c = omega arith
-
-pub bounds-l-i : goal.bounds-l-i
-bounds-l-i c = omega arith
-
-pub overflow_step-i : goal.overflow_step-i
-overflow_step-i c = omega arith
-
-pub loop-i-smaller : goal.loop-i-smaller
-loop-i-smaller c = omega arith
-
-pub loop-i-preserved : goal.loop-i-preserved
-loop-i-preserved c = (omega arith, fill_more _ _ _ _ _ (omega arith) c.loop-i.invariant.1 refl)
-
 pub returns : goal.returns
-returns c = fill_end _ _ _ _ _ c.loop-i.invariant.1 (omega arith) (omega arith)
+returns c =
+    let s = c.args.s.now in
+    let at = c.args.at in
+    let h : length s ≡ node_size = search rules in
+    let k : length (drop at s) ≤ node_size - at = simp length-drop (omega arith) in
+    (rw c.unwrap.ensures at c.first_chunk.ensures.cases).same ∙ ap (take 32) (take_all (node_size - at) (drop at s) k)
+    ∙ sym (window-span 32 s at (omega arith))

@@ -1,14 +1,13 @@
+use mathlib.Core.List.{List, ◌++◌}
+use mathlib.Core.Path.{◌≡◌, refl, ap, ap₂, ◌∙◌}
+use Prim.Native.Nat.{ℕ, ◌≤◌, ◌<◌, ◌+◌, ◌*◌}
+use native.Mathlib.Omega.{arith}
+use lib.ListN.{length, get_or, take, drop}
+use lib.Seq.{take-length}
+use borrow.Author.Rules.{rules}
 use Rattle.lists.specs.Bytes.{bytes32, flat, written, Tried}
 use Rattle.lists.proofs.Laws.{flat-more, length-flat-part, length-flat}
 use Rattle.lists.proofs.Chain.{put}
-use mathlib.Core.List.{List, ◌++◌}
-use lib.ListN.{length, get_or, take, drop}
-use lib.Seq.{take-length}
-use mathlib.Core.Path.{ap₂}
-use mathlib.Core.Path.{◌≡◌, refl, ap, ◌∙◌}
-use Prim.Native.Nat.{ℕ, ◌≤◌, ◌<◌, ◌-◌, ◌+◌, ◌*◌}
-use native.Mathlib.Omega.{arith}
-use borrow.Author.Rules.{rules}
 use Rattle.area.specs.Area.{node_size}
 use Rattle.area.proofs.put_words.Goals as goal
 
@@ -22,40 +21,16 @@ put-word-more {s} {r} {b} {j} w l i e f t room h =
 
 pub loop-i-init : goal.loop-i-init
 unfolding flat
-loop-i-init c = (omega arith, refl)
-
-pub offset_bounds-w-i : goal.offset_bounds-w-i
-offset_bounds-w-i c = omega arith
-
-pub bounds-w-i : goal.bounds-w-i
-bounds-w-i c = omega arith
-
-pub overflow_mul-i : goal.overflow_mul-i
-overflow_mul-i c = omega arith
-
-pub overflow_step-i : goal.overflow_step-i
-overflow_step-i c = omega arith
-
-pub loop-i-smaller : goal.loop-i-smaller
-loop-i-smaller c = omega arith
+loop-i-init c = refl
 
 pub loop-i-preserved : goal.loop-i-preserved
 loop-i-preserved c =
     let w = c.args.w in
     let l = c.args.area.now in
     let h : length w ≡ 14 = search rules in
-    let k : length c.loop-i.area ≡ node_size = ap length c.loop-i.invariant.1 ∙ length-flat-part w l c.loop-i.i (omega arith) (omega arith)
-    ∙ c.requires in (
-      omega arith,
-      put-word-more w l c.loop-i.i c.loop-i.invariant.1 c.word_bytes-b.ensures
-          c.put_bytes.ensures (omega arith) (omega arith),
-    )
-
-pub shape_of-area : goal.shape_of-area
-shape_of-area c =
-    let h : length c.args.w ≡ 14 = search rules in
-    ap length c.loop-i.invariant.1
-    ∙ length-flat-part c.args.w c.args.area.now c.loop-i.i (omega arith) (omega arith)
+    let m : length l ≡ node_size = search rules in
+    let k : length c.loop-i.area ≡ node_size = ap length c.loop-i.invariant ∙ length-flat-part w l c.loop-i.i (omega arith) (omega arith) ∙ m in
+    put-word-more w l c.loop-i.i c.loop-i.invariant c.word_bytes.ensures c.put_bytes.ensures (omega arith) (omega arith)
 
 pub returns : goal.returns
 returns c =
@@ -64,5 +39,5 @@ returns c =
     let h : length w ≡ 14 = search rules in
     let e : c.loop-i.i ≡ length w = omega arith in
     let k : 4 * length w ≡ 0 + length (flat w) = omega (arith, length-flat w) in
-    c.loop-i.invariant.1 ∙ ap (λ (x : ℕ). flat (take x w) ++ drop (4 * x) l) e
+    c.loop-i.invariant ∙ ap (λ (x : ℕ). flat (take x w) ++ drop (4 * x) l) e
     ∙ ap₂ (λ (x : List ℕ) (y : ℕ). flat x ++ drop y l) (take-length w) k

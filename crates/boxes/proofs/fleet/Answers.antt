@@ -13,9 +13,9 @@ use Rattle.node.specs.Figures.{negotiates, sending}
 use Rattle.node.specs.Negotiation.{hear_answer}
 use Rattle.node.specs.Distribution.{sent_by, take_answer}
 use Rattle.node.specs.declared.Packet.{Packet}
-use Rattle.node.specs.declared.Answer.{Answer}
-use Rattle.node.specs.declared.Answer.TheVariants.{Done, NoSuchNode, WrongPhase, NotLive, NotDown, TooManyPackets, NoSuchPacket}
-use Rattle.node.specs.declared.Answer.TheVariants.{WrongSender, NoRoom}
+use Rattle.node.specs.Answers.{Answer}
+use Rattle.node.specs.Answers.{Done, NoSuchNode, WrongPhase, NotLive, NotDown, TooManyPackets, NoSuchPacket}
+use Rattle.node.specs.Answers.{WrongSender, NoRoom}
 use Rattle.node.proofs.Tested.{take-sends}
 use Rattle.wire.specs.Layout.{packet_size, packet_in, schedule_bytes}
 use Rattle.wire.specs.Reads.{packet_answer}

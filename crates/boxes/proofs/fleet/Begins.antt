@@ -16,7 +16,7 @@ use Rattle.lists.specs.All.{tab}
 use Rattle.lists.proofs.Laws.{length-tab, get_d-tab, all-make}
 use Rattle.node.specs.Answers.{is_done}
 use Rattle.node.specs.Begin.{starting, start_answer}
-use Rattle.node.specs.declared.Answer.TheVariants.{Done, OutOfRange}
+use Rattle.node.specs.Answers.{Done, OutOfRange}
 use Rattle.node.proofs.Answers.{both-done}
 use Rattle.node.proofs.Tested.{start-asks}
 use Rattle.range.proofs.Lengths.{long-start}

@@ -17,7 +17,7 @@ use Rattle.membership.specs.requests.Requests.{entry_of}
 use Rattle.node.specs.Answers.{is_done}
 use Rattle.node.specs.Figures.{is_last}
 use Rattle.node.specs.Close.{determines}
-use Rattle.node.specs.declared.Answer.{Answer}
+use Rattle.node.specs.Answers.{Answer}
 use Rattle.area.specs.Area.{decoded}
 use Rattle.area.proofs.Canon.{round_trip}
 use Rattle.site.specs.Members.{nobody, member_at, is_live}

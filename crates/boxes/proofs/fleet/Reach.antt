@@ -4,7 +4,7 @@ use mathlib.Core.Path.{◌≡◌, refl, sym, ap, ap₂, ◌∙◌, subst}
 use mathlib.Core.List.{List, [], ◌∷◌}
 use Prim.Native.Nat.{ℕ, ◌≤◌}
 use lib.ListN.{length}
-use Rattle.node.specs.declared.Answer.{Answer}
+use Rattle.node.specs.Answers.{Answer}
 use Rattle.site.specs.Load.{loaded_site}
 use Rattle.site.specs.Answers.{area_size, answer_of}
 use Rattle.site.specs.Run.{RunState, after, run}

@@ -18,8 +18,8 @@ use Rattle.node.specs.Figures.{negotiates}
 use Rattle.node.specs.Negotiation.{packet_of, hear_answer}
 use Rattle.node.specs.Distribution.{sent_by}
 use Rattle.range.specs.Range.{in_range}
-use Rattle.node.specs.declared.Answer.{Answer}
-use Rattle.node.specs.declared.Answer.TheVariants.{Done, WrongSender, OwnPacket}
+use Rattle.node.specs.Answers.{Answer}
+use Rattle.node.specs.Answers.{Done, WrongSender, OwnPacket}
 use Rattle.node.specs.declared.Setup.{Setup}
 use Rattle.node.specs.declared.Phase.{Phase}
 use Rattle.node.specs.declared.Phase.TheVariants.{Distribution}

@@ -21,8 +21,8 @@ use Rattle.node.specs.Steps.{close_outcome, end_outcome}
 use Rattle.node.specs.Model.{Node}
 use Rattle.node.specs.declared.Packet.{Packet}
 use Rattle.node.specs.Model.{Versioned}
-use Rattle.node.specs.declared.Answer.{Answer}
-use Rattle.node.specs.declared.Answer.TheVariants.{Done}
+use Rattle.node.specs.Answers.{Answer}
+use Rattle.node.specs.Answers.{Done}
 use Rattle.node.proofs.Answers.{done-is}
 use Rattle.node.proofs.Laws as law
 use Rattle.range.proofs.Laws as ranged

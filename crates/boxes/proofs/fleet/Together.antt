@@ -12,7 +12,7 @@ use Rattle.node.specs.Figures.{negotiates, flags_ok}
 use Rattle.node.specs.Distribution.{sent_by}
 use Rattle.node.specs.declared.Setup.{Setup}
 use Rattle.node.specs.declared.Packet.{Packet}
-use Rattle.node.specs.declared.Answer.TheVariants.{Done}
+use Rattle.node.specs.Answers.{Done}
 use Rattle.node.proofs.Tested as law
 use Rattle.wire.specs.Layout.{schedule_bytes, schedule_in}
 use Rattle.wire.specs.Reads.{schedule_answer, part_of}

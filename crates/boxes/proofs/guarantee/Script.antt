@@ -28,7 +28,7 @@ use Rattle.site.specs.declared.Event.TheVariants.{Send, Hear, Close, Take, End}
 use Rattle.text.specs.Read.{front, split, digits_from, number_of}
 use Rattle.text.specs.Write.{digits_of}
 use Rattle.script.specs.lines.Lines.{on_line}
-use Rattle.script.specs.lines.Fields.{two_of, three_of, four_of, five_of}
+use Rattle.script.specs.lines.Fields.{numbers_of}
 use Rattle.script.specs.load.Opening.{got, opening, names_line, settings_line, table_lines}
 use Rattle.script.specs.events.Events.{number_from, fields_of}
 use Rattle.desk.specs.listing.Rows.{first_head, refusal_line, more_owners, owners_text, row_text, rows_text}
@@ -43,12 +43,12 @@ fitting : unfit case_script zeros ≡ false
 fitting = refl
 
 opened-so : opening (split 10 case_script) ≡ got case_opening case_lines
-unfolding opening names_line on_line split front same settings_line table_lines config_ok five_of four_of three_of two_of number_of digits_from row_ok
+unfolding opening names_line on_line split front same settings_line table_lines config_ok numbers_of number_of digits_from row_ok
     start_answer flags_ok
 opened-so = refl
 
 events-so : events_in case_lines ≡ Send 2 ∷ Send 3 ∷ Hear 1 1 ∷ Hear 1 2 ∷ Close ∷ Take 3 2 ∷ Take 2 1 ∷ End ∷ []
-unfolding events_in fields_of number_from split front same number_of digits_from two_of
+unfolding events_in fields_of number_from split front same number_of digits_from numbers_of
 events-so = refl
 
 printed-so : first_head case_opening.config.split
@@ -56,7 +56,7 @@ printed-so : first_head case_opening.config.split
     case_lines
     ++ (second_head ++ rows_text case_opening.config.nodes 0 (final case_opening.config case_opening.table zeros
     (events_in case_lines)).members case_opening.config.slots)) ≡ case_listing
-unfolding refused_lines refusal_line digits_of events_in fields_of number_from split front number_of digits_from two_of rows_text row_text owners_text
+unfolding refused_lines refusal_line digits_of events_in fields_of number_from split front number_of digits_from numbers_of rows_text row_text owners_text
     more_owners loaded_timed timed_load_answer timed_answer timed_after next_timed given_site given_table list_ok
     has_windows demand_at due_at load_answer table_ok row_ok run site_after area_after answer_of site_send answer_part site_hear site_close site_take
     site_end sent_site sent_area heard_site closed_site taken_site ended_site loaded_site loaded_member begun waiting

@@ -15,7 +15,7 @@ use Rattle.allotment.specs.Allotment.{top_request}
 use Rattle.node.specs.Answers.{is_done}
 use Rattle.node.specs.Begin.{starting, start_answer}
 use Rattle.node.specs.Steps.{wanted_node}
-use Rattle.node.specs.declared.Answer.TheVariants.{Done, OutOfRange, NoSuchNode, BadWindows}
+use Rattle.node.specs.Answers.{Done, OutOfRange, NoSuchNode, BadWindows}
 use Rattle.node.specs.Model.{Node}
 use Rattle.node.proofs.Answers.{test-passed, test-met, both-done}
 use Rattle.node.proofs.Tested.{start-asks, start-done}

@@ -7,8 +7,8 @@ use mathlib.Core.List.{List, [], ◌∷◌, map, Memᴰ}
 use Rattle.std.specs.Int.Bits
 use Rattle.words.specs.Bits.{size, is_in, how_many}
 use Rattle.membership.specs.requests.Requests.{entry_of}
-use Rattle.node.specs.declared.Answer.{Answer}
-use Rattle.node.specs.declared.Answer.TheVariants.{Done, WrongSender, OwnPacket}
+use Rattle.node.specs.Answers.{Answer}
+use Rattle.node.specs.Answers.{Done, WrongSender, OwnPacket}
 use Rattle.wire.specs.Layout.{packet_size}
 use Rattle.area.specs.Area.{node_size, encoded, valid}
 use Rattle.host.specs.Report.{report_size}

@@ -7,9 +7,9 @@ use Rattle.lists.specs.Bytes.{word32, window, span}
 use Rattle.allotment.specs.Allotment.{top_request}
 use Rattle.node.specs.Answers.{is_done}
 use Rattle.node.specs.Figures.{flags_ok, is_last}
-use Rattle.node.specs.declared.Answer.{Answer}
-use Rattle.node.specs.declared.Answer.TheVariants.{Done, OutOfRange, NoSuchNode, WrongPhase, NotLive, NotDown, TooManyPackets}
-use Rattle.node.specs.declared.Answer.TheVariants.{NoSuchPacket, WrongSender}
+use Rattle.node.specs.Answers.{Answer}
+use Rattle.node.specs.Answers.{Done, OutOfRange, NoSuchNode, WrongPhase, NotLive, NotDown, TooManyPackets}
+use Rattle.node.specs.Answers.{NoSuchPacket, WrongSender}
 use Rattle.wire.specs.Layout.{packet_size, schedule_size}
 use Rattle.area.specs.Area.{node_size}
 use Rattle.host.specs.Report.{report_size}

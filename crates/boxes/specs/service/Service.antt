@@ -3,7 +3,7 @@
 -- one's and hands it to `hydra_want`. The node area is then the one that a site's load, or its end, with windows makes of the node.
 -- Assumes nothing.
 use Rattle.std.specs.Prelude.{◌≡◌, true, false, List, ℕ, ◌-◌, length, get_or}
-use Rattle.node.specs.declared.Answer.TheVariants.{Done}
+use Rattle.node.specs.Answers.{Done}
 use Rattle.area.specs.Area.{node_size, encoded, decoded, valid}
 use Rattle.host.specs.Calls.{beginning, after_begin, after_want, after_end}
 use Rattle.site.specs.Members.{setup_of, member_at, outside}

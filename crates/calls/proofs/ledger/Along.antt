@@ -7,7 +7,7 @@ use Prim.Native.Nat.{ℕ}
 use Rattle.words.proofs.Tests.{never, hit, skip, read_same}
 use Rattle.node.specs.Answers.{is_done}
 use Rattle.node.specs.Figures.{is_last}
-use Rattle.node.specs.declared.Answer.TheVariants.{NoRoom}
+use Rattle.node.specs.Answers.{NoRoom}
 use Rattle.site.specs.Answers.{site_end, answer_of}
 use Rattle.site.specs.Steps.{site_after, area_after}
 use Rattle.site.specs.Events.{is_end}

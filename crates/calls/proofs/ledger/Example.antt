@@ -7,7 +7,7 @@ use Prim.Native.Nat.{ℕ}
 use Rattle.lists.specs.All.{all_below, tab}
 use Rattle.node.specs.Figures.{config_ok, flags_ok}
 use Rattle.node.specs.Begin.{start_answer}
-use Rattle.node.specs.declared.Answer.TheVariants.{Done}
+use Rattle.node.specs.Answers.{Done}
 use Rattle.site.specs.Load.{row_ok, table_ok, load_answer}
 use Rattle.node.specs.declared.Config.{Config}
 use Rattle.windows.specs.Windows.{list_ok}

@@ -9,8 +9,8 @@ use lib.Dec.{eqb}
 use lib.ListN.{length}
 use Rattle.words.proofs.Tests.{never, met?, hit, skip, read_same}
 use Rattle.node.specs.Answers.{number, is_done}
-use Rattle.node.specs.declared.Answer.{Answer}
-use Rattle.node.specs.declared.Answer.TheVariants.{Done, OutOfRange, NoRoom}
+use Rattle.node.specs.Answers.{Answer}
+use Rattle.node.specs.Answers.{Done, OutOfRange, NoRoom}
 use Rattle.node.proofs.Answers.{done-is}
 use Rattle.site.specs.Load.{loaded_site}
 use Rattle.site.specs.Events.{is_end}
@@ -39,8 +39,8 @@ use Rattle.calls.proofs.lifted.Theorem.{lifts, lifted, calls-append}
 use Rattle.machine.specs.combined.Kept.{Kept}
 use Rattle.machine.specs.combined.Stored.{step_answer, step_accepted, step_kept}
 use Rattle.machine.proofs.combined.Laws.{kept-refused, step-accepts}
-use Rattle.script.specs.declared.Parsed.{Parsed}
-use Rattle.script.specs.declared.Parsed.TheVariants.{Malformed, Good}
+use Rattle.std.specs.Prelude.{Option}
+use Rattle.std.specs.Prelude.{None, Some}
 use Rattle.sites.specs.one.Memory.{memory_too_short, day_in, kept_of}
 use Rattle.sites.specs.one.Calls.{table_from, loading_of, timed_after_load, site_event_answer, kept_after_event}
 use Rattle.calls.specs.ledger.Lists.{Did, CalledAll, left_by, SiteStep, step_of, steps_by, calls_in, Threaded, ClaimsOnce, Accounted}
@@ -49,6 +49,7 @@ use Rattle.calls.specs.ledger.Ledger.{Called, step_for, steps_of}
 use Rattle.calls.specs.ledger.Ledger.{past_in, Begun}
 use Rattle.calls.specs.ledger.Ledger.{InMemory, Ledger}
 use Rattle.calls.proofs.ledger.Along.{step_kept_lem, Along, along-append, steps-append, along-past, accounted}
+use Rattle.calls.proofs.Zero.{zero-is}
 
 -- the site with its day, and its area, of what memory stands for with a tally
 abbrev placed : Kept → TimedState
@@ -77,18 +78,18 @@ module _ (m : SiteMemory) (ws : List Window) (t : Tally) (out : List ℕ) (n : �
       → k ≡ kept_of s m.area t
       → One (stands_for m) (stands_for l) (cond (eqb n 0) ss [])
   refused A k ss a q h e =
-      subst (One (stands_for m) (stands_for l)) (sym (skip (eqb n 0) ss [] [] (ap (λ (x : ℕ). eqb x 0) a ∙ h) refl))
+      subst (One (stands_for m) (stands_for l)) (sym (skip (eqb n 0) ss [] [] (ap (λ (x : ℕ). eqb x 0) a ∙ zero-is A ∙ h) refl))
       (none (ap placed (q ∙ e)))
 
   accepted : (e : Event) → n ≡ number (step_answer s (day_in m.words) m.area ws t out e)
       → kept_of (store_of l) l.area u ≡ step_kept s (day_in m.words) m.area ws t out e
       → step_accepted s (day_in m.words) m.area ws t out e ≡ true
-      → One (stands_for m) (stands_for l) (cond (eqb n 0) (step_of (Good e) ws (site_in_memory m) (site_in_memory l) t u) [])
+      → One (stands_for m) (stands_for l) (cond (eqb n 0) (step_of (Some e) ws (site_in_memory m) (site_in_memory l) t u) [])
   unfolding run_calls Along
   accepted e a q h =
       let k = q ∙ step_kept_lem s (day_in m.words) m.area ws t out e h in
-      subst (One (stands_for m) (stands_for l)) (sym (hit (eqb n 0) (step_of (Good e) ws (site_in_memory m) (site_in_memory l) t u) []
-      (ap (λ (x : ℕ). eqb x 0) a ∙ h)))
+      subst (One (stands_for m) (stands_for l)) (sym (hit (eqb n 0) (step_of (Some e) ws (site_in_memory m) (site_in_memory l) t u) []
+      (ap (λ (x : ℕ). eqb x 0) a ∙ zero-is (step_answer s (day_in m.words) m.area ws t out e) ∙ h)))
       (record {
         run = ap placed k;
         along = (
@@ -104,21 +105,21 @@ module _ (m : SiteMemory) (ws : List Window) (t : Tally) (out : List ℕ) (n : �
 
   an-event : (e : Event) → n ≡ number (step_answer s (day_in m.words) m.area ws t out e)
       → kept_of (store_of l) l.area u ≡ step_kept s (day_in m.words) m.area ws t out e
-      → One (stands_for m) (stands_for l) (cond (eqb n 0) (step_of (Good e) ws (site_in_memory m) (site_in_memory l) t u) [])
+      → One (stands_for m) (stands_for l) (cond (eqb n 0) (step_of (Some e) ws (site_in_memory m) (site_in_memory l) t u) [])
   an-event e a q =
       ⊎_elim (accepted e a q)
       (λ h. refused (step_answer s (day_in m.words) m.area ws t out e) _ _ a q h
       (kept-refused s (day_in m.words) m.area ws t out e h))
       (met? (step_accepted s (day_in m.words) m.area ws t out e))
 
-  any : (p : Parsed) → n ≡ number (site_event_answer s m.area ws t out p)
+  any : (p : (Option Event)) → n ≡ number (site_event_answer s m.area ws t out p)
       → kept_of (store_of l) l.area u ≡ kept_after_event s m.area ws t out p
       → One (stands_for m) (stands_for l) (cond (eqb n 0) (step_of p ws (site_in_memory m) (site_in_memory l) t u) [])
   unfolding site_event_answer kept_after_event
-  any Malformed a q =
+  any None a q =
       let z : stands_for l ≡ stands_for m = ap placed (q ∙ read_same (λ (k : Kept). k) (memory_too_short s) _ _ _ refl refl) in
       subst (One (stands_for m) (stands_for l)) (no_steps (eqb n 0)) (none z)
-  any (Good e) a q =
+  any (Some e) a q =
       ⊎_elim
       (λ h. refused NoRoom _ _ (a ∙ ap number (hit _ _ _ h)) q refl (hit _ _ _ h))
       (λ h. an-event e (a ∙ ap number (skip _ _ _ _ h refl)) (q ∙ skip _ _ _ _ h refl))
@@ -156,7 +157,7 @@ module _ (f : Config) (rows : List ℕ) (D : ℕ) (ws : List Window) (m : SiteMe
   loads = go (memory_too_short b.before) refl (eqb (length rows) (3 * f.nodes)) refl
     where
       done : is_done (loading_of b.before f rows D ws) ≡ true
-      done = ap (λ (n : ℕ). eqb n 0) b.answer
+      done = sym (zero-is (loading_of b.before f rows D ws)) ∙ ap (λ (n : ℕ). eqb n 0) b.answer
 
       go : (x : Bool) → memory_too_short b.before ≡ x → (y : Bool) → eqb (length rows) (3 * f.nodes) ≡ y → timed_load_answer f t D ws ≡ Done
       go true p y q = never (sym (ap is_done (sym (hit _ NoRoom _ p)) ∙ done))
@@ -166,7 +167,7 @@ module _ (f : Config) (rows : List ℕ) (D : ℕ) (ws : List Window) (m : SiteMe
 
   begins : stands_for m ≡ begin_by f t D ws m.area
   unfolding timed_after_load
-  begins = λ i. record { timed = (b.site ∙ hit _ _ _ (ap (λ (n : ℕ). eqb n 0) b.answer)) i; area = m.area }
+  begins = λ i. record { timed = (b.site ∙ hit _ _ _ (sym (zero-is (loading_of b.before f rows D ws)) ∙ ap (λ (n : ℕ). eqb n 0) b.answer)) i; area = m.area }
 
   module _ (ds : List (Did Made SiteMemory)) (r : CalledAll Called m ds) where
     abbrev cs : List Call

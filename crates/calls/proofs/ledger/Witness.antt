@@ -16,8 +16,8 @@ use Rattle.lists.proofs.Laws.{iter-inv}
 use Rattle.masks.specs.Bytes.{masks_size, can_copy}
 use Rattle.node.specs.Answers.{is_done, number}
 use Rattle.node.specs.Core.{core_of}
-use Rattle.node.specs.declared.Answer.{Answer}
-use Rattle.node.specs.declared.Answer.TheVariants.{Done, OutOfRange, BadWindows, NoRoom}
+use Rattle.node.specs.Answers.{Answer}
+use Rattle.node.specs.Answers.{Done, OutOfRange, BadWindows, NoRoom}
 use Rattle.node.specs.declared.Move.{Move}
 use Rattle.node.specs.declared.Move.TheVariants.{Free}
 use Rattle.node.proofs.Answers.{done-is}
@@ -61,8 +61,8 @@ use Rattle.tally.specs.declared.Tally.{Tally}
 use Rattle.machine.specs.combined.Kept.{Kept, first_refusal, kept_answer}
 use Rattle.machine.specs.combined.Stored.{lent_too_short, report_too_short, step_answer, step_accepted, step_store, step_kept}
 use Rattle.machine.proofs.combined.Laws.{first-refuses, step-accepts, kept-refused}
-use Rattle.script.specs.declared.Parsed.{Parsed}
-use Rattle.script.specs.declared.Parsed.TheVariants.{Malformed, Good}
+use Rattle.std.specs.Prelude.{Option}
+use Rattle.std.specs.Prelude.{None, Some}
 use Rattle.sites.specs.one.Memory.{at_day, at_epoch, memory_size, memory_too_short, day_in, with_day, timed_of, kept_of}
 use Rattle.sites.specs.one.Calls.{table_from, loading_of, timed_after_load, site_event_answer, kept_after_event, after_event}
 use Rattle.sites.proofs.one.Days.{timed-day}
@@ -272,25 +272,25 @@ module _ (m : SiteMemory) (c : Made) (E : Enough m) where
   not-lacking : memory_too_short s ≡ false
   not-lacking = λ i. le-ltb _ _ E.words i || le-ltb _ _ E.bytes i
 
-  record Left (p : Parsed) : Type 0 where
+  record Left (p : (Option Event)) : Type 0 where
     timed : timed_of (after_event s m.area ws t c.reports p) ≡ (kept_after_event s m.area ws t c.reports p).timed
     grown : Grown s (after_event s m.area ws t c.reports p)
 
-  left : (p : Parsed) → Left p
+  left : (p : (Option Event)) → Left p
   unfolding after_event kept_after_event site_event_answer
-  left Malformed =
+  left None =
       record {
-        timed = ap timed_of (read_same (λ (x : Store). x) (is_done (site_event_answer s m.area ws t c.reports Malformed)) s s s refl refl)
+        timed = ap timed_of (read_same (λ (x : Store). x) (is_done (site_event_answer s m.area ws t c.reports None)) s s s refl refl)
             ∙ ap (λ (x : Kept). x.timed) (sym (read_same (λ (x : Kept). x) (memory_too_short s) _ _ (kept_of s m.area t) refl refl));
-        grown = by-test (Grown s) (is_done (site_event_answer s m.area ws t c.reports Malformed)) s s (λ _. same s) (λ _. same s);
+        grown = by-test (Grown s) (is_done (site_event_answer s m.area ws t c.reports None)) s s (λ _. same s) (λ _. same s);
       }
-  left (Good e) =
+  left (Some e) =
       ⊎_elim
       (λ h.
       let g = step-grown s d m.area ws t c.reports e (sym (ap is_done a) ∙ h) in
       let x = step_store s d m.area ws t c.reports e in
       let k = step_kept s d m.area ws t c.reports e in
-      let q : after_event s m.area ws t c.reports (Good e) ≡ with_day x k.timed.day = hit _ _ s h in
+      let q : after_event s m.area ws t c.reports (Some e) ≡ with_day x k.timed.day = hit _ _ s h in
       record {
         timed = ap timed_of q ∙ timed-day x k.timed.day (omega (arith, g.words, E.words))
             ∙ (λ i. record { site = step-site s d m.area ws t c.reports e (sym (ap is_done a) ∙ h) i; day = k.timed.day })
@@ -306,18 +306,18 @@ module _ (m : SiteMemory) (c : Made) (E : Enough m) where
         }));
       })
       (λ h.
-      let q : after_event s m.area ws t c.reports (Good e) ≡ s = skip _ _ s s h refl in
+      let q : after_event s m.area ws t c.reports (Some e) ≡ s = skip _ _ s s h refl in
       record {
         timed = ap timed_of q ∙ ap (λ (y : Kept). y.timed) (sym
             (kept ∙ kept-refused s d m.area ws t c.reports e (sym (ap is_done a) ∙ h)));
         grown = subst (Grown s) (sym q) (same s);
       })
-      (met? (is_done (site_event_answer s m.area ws t c.reports (Good e))))
+      (met? (is_done (site_event_answer s m.area ws t c.reports (Some e))))
     where
-      a : site_event_answer s m.area ws t c.reports (Good e) ≡ step_answer s d m.area ws t c.reports e
+      a : site_event_answer s m.area ws t c.reports (Some e) ≡ step_answer s d m.area ws t c.reports e
       a = skip (memory_too_short s) NoRoom _ _ not-lacking refl
 
-      kept : kept_after_event s m.area ws t c.reports (Good e) ≡ step_kept s d m.area ws t c.reports e
+      kept : kept_after_event s m.area ws t c.reports (Some e) ≡ step_kept s d m.area ws t c.reports e
       kept = skip (memory_too_short s) (kept_of s m.area t) _ _ not-lacking refl
 
   pub makes : Makes m c

@@ -7,15 +7,16 @@ use Prim.Native.Nat.{ℕ}
 use lib.Dec.{eqb}
 use Rattle.words.proofs.Tests.{hit, skip}
 use Rattle.node.specs.Answers.{is_done}
-use Rattle.node.specs.declared.Answer.{Answer}
-use Rattle.node.specs.declared.Answer.TheVariants.{NoSuchNode, NoRoom, OutOfRange}
+use Rattle.node.specs.Answers.{Answer}
+use Rattle.node.specs.Answers.{NoSuchNode, NoRoom, OutOfRange}
 use Rattle.node.specs.declared.Config.{Config}
 use Rattle.windows.specs.declared.Window.{Window}
 use Rattle.machine.specs.timed.Timed.{timed_load_answer}
 use Rattle.tally.specs.declared.Tally.{Tally}
 use Rattle.script.specs.events.Events.{event_at}
-use Rattle.script.specs.declared.Parsed.{Parsed}
-use Rattle.script.specs.declared.Parsed.TheVariants.{Malformed, Good}
+use Rattle.site.specs.declared.Event.{Event}
+use Rattle.std.specs.Prelude.{Option}
+use Rattle.std.specs.Prelude.{None, Some}
 use Rattle.sites.specs.one.Calls.{table_from}
 use Rattle.calls.specs.ledger.Lists.{CalledAll, left_by}
 use Rattle.group.specs.Group.{Group, vacant, is_number}
@@ -28,6 +29,7 @@ use Rattle.sites.specs.many.Calls.{group_after_line}
 use Rattle.calls.specs.register.Register.{Lending, stands_for, GroupMade, LoadMade, EventMade, CallOf, Called}
 use Rattle.calls.specs.register.Register.{Calls, line_call, group_call}
 use Rattle.calls.specs.register.Register.{accepted}
+use Rattle.calls.proofs.Zero.{zero-is}
 
 run-append : (g : Group) (cs ds : List GroupCall) → run_group g (cs ++ ds) ≡ run_group (run_group g cs) ds
 unfolding run_group
@@ -41,15 +43,15 @@ run-one g c true = refl
 run-one g c false = refl
 
 -- an event
-one_line : (m : Memory) (area : List ℕ) (a : ℕ) (v : Lent) (p : Parsed)
+one_line : (m : Memory) (area : List ℕ) (a : ℕ) (v : Lent) (p : (Option Event))
     → group_after_line m area a v p ≡ run_group (group_in m area) (cond (is_done (group_line_answer m area a v p)) (line_call a v.windows p) [])
 unfolding run_group group_after
-one_line m area a v Malformed = go (is_done (group_line_answer m area a v Malformed))
+one_line m area a v None = go (is_done (group_line_answer m area a v None))
   where
     go : (b : Bool) → group_in m area ≡ run_group (group_in m area) (cond b [] [])
     go true = refl
     go false = refl
-one_line m area a v (Good e) = run-one (group_in m area) (event_call a v.windows e) (is_done (group_line_answer m area a v (Good e)))
+one_line m area a v (Some e) = run-one (group_in m area) (event_call a v.windows e) (is_done (group_line_answer m area a v (Some e)))
 
 -- a load
 module _ (m : Memory) (area : List ℕ) (a : ℕ) (f : Config) (rows : List ℕ) (D : ℕ) (ws : List Window) where
@@ -116,10 +118,13 @@ pub one : (m : Lending) (c : GroupMade) (n : ℕ) (u : Tally) (l : Lending) → 
 one m (LoadMade a f rows D ws t) n u l r =
     r.group
     ∙ one-load m.memory m.area a f rows D ws
+    ∙ ap (λ (y : Bool). run_group (stands_for m) (cond y (LoadSite a f (table_from rows) D ws ∷ []) [])) (sym (zero-is (rows_answer m.memory a f rows D ws)))
     ∙ ap (λ (k : ℕ). run_group (stands_for m) (cond (eqb k 0) (LoadSite a f (table_from rows) D ws ∷ []) [])) (sym r.answer)
 one m (EventMade a event node with v) n u l r =
     r.group
     ∙ one_line m.memory m.area a v (event_at event node with)
+    ∙ ap (λ (y : Bool). run_group (stands_for m) (cond y (line_call a v.windows (event_at event node with)) []))
+    (sym (zero-is (group_line_answer m.memory m.area a v (event_at event node with))))
     ∙ ap (λ (k : ℕ). run_group (stands_for m) (cond (eqb k 0) (line_call a v.windows (event_at event node with)) [])) (sym r.answer)
 
 pub stands : (m : Lending) (ds : Calls) → CalledAll Called m ds → stands_for (left_by m ds) ≡ run_group (stands_for m) (accepted ds)

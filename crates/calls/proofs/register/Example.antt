@@ -10,7 +10,7 @@ use Rattle.lists.specs.All.{all_below, tab}
 use Rattle.node.specs.Figures.{config_ok, flags_ok}
 use Rattle.node.specs.Begin.{begun, start_answer}
 use Rattle.node.specs.Steps.{wanted_node}
-use Rattle.node.specs.declared.Answer.TheVariants.{Done, NoRoom}
+use Rattle.node.specs.Answers.{Done, NoRoom}
 use Rattle.site.specs.Answers.{area_size, site_want, answer_of}
 use Rattle.site.specs.Load.{row_ok, table_ok, load_answer, loaded_member, loaded_site}
 use Rattle.site.specs.Steps.{wanted_site}

@@ -10,8 +10,8 @@ use lib.Dec.{eqb}
 use lib.ListN.{length}
 use Rattle.words.proofs.Tests.{never, clash, hit, skip, or-neither, same_or_not}
 use Rattle.node.specs.Answers.{is_done, number}
-use Rattle.node.specs.declared.Answer.{Answer}
-use Rattle.node.specs.declared.Answer.TheVariants.{Done, Crowded}
+use Rattle.node.specs.Answers.{Answer}
+use Rattle.node.specs.Answers.{Done, Crowded}
 use Rattle.node.proofs.Answers.{done-is}
 use Rattle.site.specs.Answers.{area_size}
 use Rattle.site.specs.Events.{is_end}
@@ -26,8 +26,8 @@ use Rattle.tally.specs.declared.Tally.{Tally}
 use Rattle.calls.proofs.lifted.Theorem.{calls-append}
 use Rattle.machine.specs.combined.Kept.{first_refusal}
 use Rattle.script.specs.events.Events.{event_at}
-use Rattle.script.specs.declared.Parsed.{Parsed}
-use Rattle.script.specs.declared.Parsed.TheVariants.{Malformed, Good}
+use Rattle.std.specs.Prelude.{Option}
+use Rattle.std.specs.Prelude.{None, Some}
 use Rattle.sites.specs.one.Calls.{table_from}
 use Rattle.calls.specs.ledger.Lists.{Did, CalledAll, left_by, SiteStep, step_of, steps_by, calls_in}
 use Rattle.calls.proofs.ledger.Along.{Along, along-append}
@@ -47,6 +47,7 @@ use Rattle.calls.specs.register.Register.{line_call, step_made, step_for, steps_
 use Rattle.calls.proofs.register.Calls.{one}
 use Rattle.calls.proofs.register.Seats.{here, plain_event, plain_line, plain_rows, short, line_same, event-same, rows_same, event-done}
 use Rattle.calls.proofs.register.Seats.{event-tally}
+use Rattle.calls.proofs.Zero.{zero-is}
 
 -- The calls of a number, alone: the number of each answer, and the calls of the site that are accepted
 
@@ -57,9 +58,9 @@ plain_made w (EventMade b event node with v) = plain_line w v (event_at event no
 abbrev pub lone_number : TimedState → OwnCall → ℕ
 lone_number w o = cond o.crowded (number Crowded) (number (plain_made w o.call))
 
-abbrev parsed_call : List Window → Parsed → List Call
-parsed_call ws Malformed = []
-parsed_call ws (Good e) = record { event = e; windows = ws } ∷ []
+abbrev parsed_call : List Window → (Option Event) → List Call
+parsed_call ws None = []
+parsed_call ws (Some e) = record { event = e; windows = ws } ∷ []
 
 abbrev made_call : GroupMade → List Call
 made_call (LoadMade b f rows D ws t) = []
@@ -173,7 +174,7 @@ module _ (own : List ℕ) (long : area_size ≤ length own) (a : ℕ) (f : Confi
 
       event : (u : Tally) (l : Lending) → stands_for l ≡ after_group (stands_for m) (SiteCall a call)
           → u ≡ group_tally_after m.memory m.area a v e
-          → Moved (stands_for l) cs (step_of (Good e) v.windows (site_at a m) (site_at a l) v.tally u)
+          → Moved (stands_for l) cs (step_of (Some e) v.windows (site_at a m) (site_at a l) v.tally u)
       unfolding Along
       event u l q k =
           let B' : Backed own (stands_for l) a (st (cs ++ (call ∷ []))) = subst (λ (y : Group). Backed own y a (st (cs ++ (call ∷ []))))
@@ -198,33 +199,33 @@ module _ (own : List ℕ) (long : area_size ≤ length own) (a : ℕ) (f : Confi
           }
 
     -- an event of any number
-    line : (b : ℕ) (v : Lent) (p : Parsed) (n : ℕ) (u : Tally) (l : Lending) → n ≡ number (group_line_answer m.memory m.area b v p)
+    line : (b : ℕ) (v : Lent) (p : (Option Event)) (n : ℕ) (u : Tally) (l : Lending) → n ≡ number (group_line_answer m.memory m.area b v p)
         → stands_for l ≡ run_group (stands_for m) (cond (eqb n 0) (line_call b v.windows p) [])
         → u ≡ tally_after_line m.memory m.area b v p
         → Moved (stands_for l) cs (cond (eqb n 0) (cond (eqb b a) (step_of p v.windows (site_at a m) (site_at a l) v.tally u) []) [])
     unfolding run_group
     line b v p n u l h q k = go (eqb n 0) refl p h q k
       where
-        steps : Parsed → List SiteStep
+        steps : (Option Event) → List SiteStep
         steps p = cond (eqb b a) (step_of p v.windows (site_at a m) (site_at a l) v.tally u) []
 
-        go : (z : Bool) → eqb n 0 ≡ z → (p : Parsed) → n ≡ number (group_line_answer m.memory m.area b v p)
+        go : (z : Bool) → eqb n 0 ≡ z → (p : (Option Event)) → n ≡ number (group_line_answer m.memory m.area b v p)
             → stands_for l ≡ run_group (stands_for m) (cond (eqb n 0) (line_call b v.windows p) [])
             → u ≡ tally_after_line m.memory m.area b v p
             → Moved (stands_for l) cs (cond z (cond (eqb b a) (step_of p v.windows (site_at a m) (site_at a l) v.tally u) []) [])
         go false z p h q k = still (stands_for m) (stands_for l) cs F B
             (q ∙ ap (λ (y : Bool). run_group (stands_for m) (cond y (line_call b v.windows p) [])) z)
-        go true z Malformed h q k = none (eqb b a)
+        go true z None h q k = none (eqb b a)
           where
             none : (y : Bool) → Moved (stands_for l) cs (cond y [] [])
             none true = still (stands_for m) (stands_for l) cs F B (q ∙ ap (λ (y : Bool). run_group (stands_for m) (cond y [] [])) z)
             none false = still (stands_for m) (stands_for l) cs F B (q ∙ ap (λ (y : Bool). run_group (stands_for m) (cond y [] [])) z)
-        go true z (Good e) h q k =
+        go true z (Some e) h q k =
             same_or_not b a
-            (λ y. subst (Moved (stands_for l) cs) (sym (hit (eqb b a) (step_of (Good e) v.windows (site_at a m) (site_at a l) v.tally u)
+            (λ y. subst (Moved (stands_for l) cs) (sym (hit (eqb b a) (step_of (Some e) v.windows (site_at a m) (site_at a l) v.tally u)
             [] (eq-eqb b a y)))
-            (subst Own-event (sym y) (λ h q k. event v e (sym (ap (λ (j : ℕ). eqb j 0) h) ∙ z) u l q k) h after k))
-            (λ y. subst (Moved (stands_for l) cs) (sym (skip (eqb b a) (step_of (Good e) v.windows (site_at a m) (site_at a l) v.tally u)
+            (subst Own-event (sym y) (λ h q k. event v e (sym (ap (λ (j : ℕ). eqb j 0) h ∙ zero-is _) ∙ z) u l q k) h after k))
+            (λ y. subst (Moved (stands_for l) cs) (sym (skip (eqb b a) (step_of (Some e) v.windows (site_at a m) (site_at a l) v.tally u)
             [] [] (ne_eqb b a y) refl))
             (other (stands_for m) (stands_for l) cs (event_call b v.windows e) F B (λ i. y (sym i)) after))
           where
@@ -236,7 +237,7 @@ module _ (own : List ℕ) (long : area_size ≤ length own) (a : ℕ) (f : Confi
                 n ≡ number (group_event_answer m.memory m.area j v e) → stands_for l
                 ≡ after_group (stands_for m) (event_call j v.windows e)
                 → u ≡ group_tally_after m.memory m.area j v e
-                → Moved (stands_for l) cs (step_of (Good e) v.windows (site_at a m) (site_at a l) v.tally u)
+                → Moved (stands_for l) cs (step_of (Some e) v.windows (site_at a m) (site_at a l) v.tally u)
 
     -- any call
     any : (c : GroupMade) (n : ℕ) (u : Tally) (l : Lending) → CallOf m c n u l → (eqb n 0 && is_load a c) ≡ false
@@ -273,7 +274,7 @@ module _ (own : List ℕ) (long : area_size ≤ length own) (a : ℕ) (f : Confi
         ∙ line_same m.memory m.area a x F.ground mirror v p))
         ∙ ap (λ (y : TimedState). cond (eqb n (number Crowded)) (number Crowded) (number (plain_line y v p))) state-is
       where
-        p : Parsed
+        p : (Option Event)
         p = event_at event node with
 
   -- the calls of the steps
@@ -288,15 +289,15 @@ module _ (own : List ℕ) (long : area_size ≤ length own) (a : ℕ) (f : Confi
       ap (λ (z : Bool). calls_in (cond (eqb n 0) (cond z (step_of p v.windows (site_at a m) (site_at a l) v.tally u) []) []))
       (eq-eqb b a e) ∙ go (eqb n 0) p
     where
-      p : Parsed
+      p : (Option Event)
       p = event_at event node with
 
-      go : (z : Bool) (p : Parsed) → calls_in (cond z (step_of p v.windows (site_at a m) (site_at a l) v.tally u) []) ≡ cond z
+      go : (z : Bool) (p : (Option Event)) → calls_in (cond z (step_of p v.windows (site_at a m) (site_at a l) v.tally u) []) ≡ cond z
           (parsed_call v.windows p) []
-      go true Malformed = refl
-      go true (Good e) = refl
-      go false Malformed = refl
-      go false (Good e) = refl
+      go true None = refl
+      go true (Some e) = refl
+      go false None = refl
+      go false (Some e) = refl
 
   other-steps : (m : Lending) (c : GroupMade) (n : ℕ) (u : Tally) (l : Lending) → made_number c ≢ a
       → cond (eqb n 0) (step_made a m c u l) [] ≡ []

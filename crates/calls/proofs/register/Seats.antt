@@ -13,8 +13,8 @@ use Rattle.lists.specs.All.{tab}
 use Rattle.lists.specs.Bytes.{written}
 use Rattle.lists.proofs.Laws.{get_d-tab}
 use Rattle.node.specs.Answers.{is_done}
-use Rattle.node.specs.declared.Answer.{Answer}
-use Rattle.node.specs.declared.Answer.TheVariants.{Done, OutOfRange, NoSuchNode, NotANode, NoRoom, BadWindows, Crowded}
+use Rattle.node.specs.Answers.{Answer}
+use Rattle.node.specs.Answers.{Done, OutOfRange, NoSuchNode, NotANode, NoRoom, BadWindows, Crowded}
 use Rattle.site.specs.Counts.{packets}
 use Rattle.site.specs.Members.{member_at, outside}
 use Rattle.site.specs.Answers.{area_size}
@@ -37,8 +37,8 @@ use Rattle.machine.specs.combined.Kept.{Kept, first_refusal, kept_answer}
 use Rattle.machine.specs.combined.Stored.{report_too_short, kept_in, step_answer, step_accepted}
 use Rattle.machine.specs.combined.Stored as machine
 use Rattle.machine.proofs.combined.Laws.{accepts}
-use Rattle.script.specs.declared.Parsed.{Parsed}
-use Rattle.script.specs.declared.Parsed.TheVariants.{Malformed, Good}
+use Rattle.std.specs.Prelude.{Option}
+use Rattle.std.specs.Prelude.{None, Some}
 use Rattle.sites.specs.one.Calls.{table_from, node_bytes, shown_size, showing, out_node}
 use Rattle.calls.proofs.ledger.Along.{step_kept_lem}
 use Rattle.group.specs.Group.{SiteSlot, Empty, Taken, Group, vacant, is_number, site_slot_of}
@@ -115,18 +115,18 @@ abbrev pub plain_event : TimedState → Lent → Event → Answer
 plain_event w v e =
     cond (report_too_short v.out) NoRoom (kept_answer (record { timed = w.timed; area = w.area; tally = v.tally }) v.windows e)
 
-abbrev pub plain_line : TimedState → Lent → Parsed → Answer
-plain_line w v Malformed = cond (report_too_short v.out) NoRoom OutOfRange
-plain_line w v (Good e) = plain_event w v e
+abbrev pub plain_line : TimedState → Lent → (Option Event) → Answer
+plain_line w v None = cond (report_too_short v.out) NoRoom OutOfRange
+plain_line w v (Some e) = plain_event w v e
 
 -- to a load
 abbrev pub plain_rows : Config → List ℕ → ℕ → List Window → Answer
 plain_rows f rows D ws = cond (row_count_fits f rows) (timed_load_answer f (table_from rows) D ws) OutOfRange
 
 -- whether an event is one for which 17 is answered where nothing else is refused
-abbrev pub short : Group → ℕ → Lent → Parsed → Bool
-short g a v Malformed = false
-short g a v (Good e) = is_crowded g (event_call a v.windows e)
+abbrev pub short : Group → ℕ → Lent → (Option Event) → Bool
+short g a v None = false
+short g a v (Some e) = is_crowded g (event_call a v.windows e)
 
 module _ (m : Memory) (area : List ℕ) (a : ℕ) (x : List ℕ) (G : Ground (group_in m area))
     (M : Mirror (group_in m area) a (record { timed = timed_of m a; area = x })) where
@@ -215,9 +215,9 @@ module _ (m : Memory) (area : List ℕ) (a : ℕ) (x : List ℕ) (G : Ground (gr
       ∙ ap (λ (z : Answer). first_refusal z (cond (is_crowded (group_in m area) (event_call a v.windows e)) Crowded Done)) (own_same v e)
 
   -- an event made of three numbers
-  pub line_same : (v : Lent) (p : Parsed) → group_line_answer m area a v p ≡ first_refusal (plain_line w v p)
+  pub line_same : (v : Lent) (p : (Option Event)) → group_line_answer m area a v p ≡ first_refusal (plain_line w v p)
       (cond (short (group_in m area) a v p) Crowded Done)
-  line_same v Malformed =
+  line_same v None =
       ap (λ (z : Answer). first_refusal z (cond (ltb (length area) area_size || report_too_short v.out) NoRoom OutOfRange)) loaded-done
       ∙ ap (λ (b : Bool). cond (b || report_too_short v.out) NoRoom OutOfRange) room
       ∙ go (report_too_short v.out)
@@ -225,7 +225,7 @@ module _ (m : Memory) (area : List ℕ) (a : ℕ) (x : List ℕ) (G : Ground (gr
       go : (b : Bool) → cond b NoRoom OutOfRange ≡ first_refusal (cond b NoRoom OutOfRange) Done
       go true = refl
       go false = refl
-  line_same v (Good e) = event-same v e
+  line_same v (Some e) = event-same v e
 
   -- a load
   pub rows_same : (f : Config) (rows : List ℕ) (D : ℕ) (ws : List Window) → rows_answer m a f rows D ws ≡ plain_rows f rows D ws

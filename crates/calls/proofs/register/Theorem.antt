@@ -9,8 +9,8 @@ use lib.ListN.{length}
 use Rattle.words.proofs.Tests.{never, hit, or-neither}
 use Rattle.lists.specs.Bytes.{written}
 use Rattle.node.specs.Answers.{is_done}
-use Rattle.node.specs.declared.Answer.{Answer}
-use Rattle.node.specs.declared.Answer.TheVariants.{Done, NoRoom, OutOfRange, NoSuchNode}
+use Rattle.node.specs.Answers.{Answer}
+use Rattle.node.specs.Answers.{Done, NoRoom, OutOfRange, NoSuchNode}
 use Rattle.site.specs.Answers.{area_size}
 use Rattle.site.specs.Load.{loaded_site}
 use Rattle.site.specs.Members.{member_at, outside}
@@ -57,6 +57,7 @@ use Rattle.calls.specs.register.Register.{SameCalls, Alike, Register}
 use Rattle.calls.proofs.register.Calls.{one, stands, final}
 use Rattle.calls.proofs.register.Seats.{here, listed, shown}
 use Rattle.calls.proofs.register.Numbers.{calls-of, one_site, lone_calls, mirror, Goes, goes}
+use Rattle.calls.proofs.Zero.{zero-is}
 
 -- a load that is accepted
 module _ (m : Memory) (a : ℕ) (f : Config) (rows : List ℕ) (D : ℕ) (ws : List Window) (h : is_done (rows_answer m a f rows D ws) ≡ true)
@@ -130,7 +131,8 @@ module _ (r : Run) (L : Loaded r) (own : List ℕ) (long : area_size ≤ length 
   before = accepted r.before
 
   load-done : is_done (rows_answer (left_by r.start r.before).memory a f r.rows D ws) ≡ true
-  load-done = sym (ap (λ (n : ℕ). eqb n 0) L.load.answer) ∙ ap (λ (n : ℕ). eqb n 0) L.answer
+  load-done = sym (ap (λ (n : ℕ). eqb n 0) L.load.answer ∙ zero-is (rows_answer (left_by r.start r.before).memory a f r.rows D ws))
+      ∙ ap (λ (n : ℕ). eqb n 0) L.answer
 
   loaded-is : stands_for r.load.left ≡ loaded_group area before (LoadSite a f t D ws)
   unfolding run_group

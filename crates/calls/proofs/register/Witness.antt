@@ -16,8 +16,8 @@ use Rattle.lists.specs.Bytes.{written}
 use Rattle.lists.proofs.Laws.{iter-inv, length-written}
 use Rattle.node.specs.Answers.{is_done, number}
 use Rattle.node.specs.Core.{core_of}
-use Rattle.node.specs.declared.Answer.{Answer}
-use Rattle.node.specs.declared.Answer.TheVariants.{Done, NoRoom, OutOfRange}
+use Rattle.node.specs.Answers.{Answer}
+use Rattle.node.specs.Answers.{Done, NoRoom, OutOfRange}
 use Rattle.node.specs.declared.Move.TheVariants.{Free}
 use Rattle.node.proofs.Moved.{moved_apart}
 use Rattle.range.proofs.Lengths.{Lengths, long-start, long-restart}
@@ -46,7 +46,7 @@ use Rattle.tally.specs.declared.Tally.{Tally}
 use Rattle.machine.specs.combined.Kept.{first_refusal}
 use Rattle.machine.proofs.combined.Laws.{first-refuses}
 use Rattle.agreement.specs.daily.Daily.{begin_by}
-use Rattle.script.specs.declared.Parsed.TheVariants.{Malformed}
+use Rattle.std.specs.Prelude.{None}
 use Rattle.sites.specs.one.Calls.{table_from}
 use Rattle.calls.specs.ledger.Lists.{Did, CalledAll, left_by, steps_by}
 use Rattle.group.specs.Group.{SiteSlot, Empty, Taken, Group, is_number, site_slot_of, own_area}
@@ -67,6 +67,7 @@ use Rattle.calls.specs.register.Register.{stands_for, timed_at, accepted, SameCa
 use Rattle.calls.proofs.register.Seats.{plain_event, event-same, event-tally}
 use Rattle.calls.proofs.register.Numbers.{mirror}
 use Rattle.calls.proofs.register.Theorem.{went, alone}
+use Rattle.calls.proofs.Zero.{zero-is}
 
 -- A loaded site is written in its own words and bytes
 
@@ -154,7 +155,7 @@ module _ (m : Memory) (area : List ℕ) (a : ℕ) (f : Config) (rows : List ℕ)
 
 -- A call whose numbers make no event, of any number: it is refused
 abbrev said : ℕ → Lending → ℕ
-said b m = number (group_line_answer m.memory m.area b (lent [] first_tally []) Malformed)
+said b m = number (group_line_answer m.memory m.area b (lent [] first_tally []) None)
 
 abbrev nothing : ℕ → Lending → Did GroupMade Lending
 nothing b m = record { call = EventMade b 99 0 0 (lent [] first_tally []); answer = said b m; tally = first_tally; left = m }
@@ -163,7 +164,9 @@ nothing-called : (b : ℕ) (m : Lending) → Called m (nothing b m)
 nothing-called b m = record { answer = refl; group = refl; tally = refl }
 
 nothing-refused : (b : ℕ) (m : Lending) → eqb (said b m) 0 ≡ false
-nothing-refused b m = first-refuses (loaded_answer m.memory b) _ (go (ltb (length m.area) area_size))
+nothing-refused b m =
+    zero-is (group_line_answer m.memory m.area b (lent [] first_tally []) None)
+    ∙ first-refuses (loaded_answer m.memory b) _ (go (ltb (length m.area) area_size))
   where
     go : (x : Bool) → is_done (cond (x || false) NoRoom OutOfRange) ≡ false
     go true = refl

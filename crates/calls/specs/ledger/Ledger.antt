@@ -18,7 +18,7 @@ use Rattle.tally.specs.declared.Tally.{Tally}
 use Rattle.recovery.specs.Calm.{live_in, live_set, Ready, Calm, whole, Risen}
 use Rattle.calls.specs.lifted.Lifted.{Claim, Agreed, Informed, Completes, Rises, Remains, Settles, SendsAbove, Heirs, FirstHeirs}
 use Rattle.script.specs.events.Events.{event_at}
-use Rattle.script.specs.declared.Parsed.{Parsed}
+use Rattle.std.specs.Prelude.{Option}
 use Rattle.sites.specs.one.Memory.{timed_of, kept_of}
 use Rattle.sites.specs.one.Calls.{table_from, loading_of, timed_after_load, site_event_answer, kept_after_event}
 use Rattle.calls.specs.ledger.Lists.{Did, CalledAll, left_by, SiteStep, step_of, steps_by, calls_in, past_by, Threaded}
@@ -52,7 +52,7 @@ pub record Made : Type 0 where
   pub tally : Tally
   pub reports : List ℕ
 
-abbrev pub parsed : Made → Parsed
+abbrev pub parsed : Made → Option Event
 parsed c = event_at c.event c.node c.with
 
 -- what the contract of hydra_site_event says of its answer, and of what memory, area and tally stand for after the call

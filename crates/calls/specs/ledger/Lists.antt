@@ -16,8 +16,8 @@ use Rattle.tally.specs.Ends.{tallied_answer}
 use Rattle.tally.specs.declared.Tally.{Tally}
 use Rattle.agreement.specs.accounts.Accounts.{ClaimedOnce, sum_over, slots_held, holds_one}
 use Rattle.calls.specs.lifted.Lifted.{Claim}
-use Rattle.script.specs.declared.Parsed.{Parsed}
-use Rattle.script.specs.declared.Parsed.TheVariants.{Malformed, Good}
+use Rattle.std.specs.Prelude.{Option}
+use Rattle.std.specs.Prelude.{None, Some}
 
 -- a call that was made, with its answer, and the tally and the memory that it left
 pub record Did (C M : Type 0) : Type 0 where
@@ -44,9 +44,9 @@ pub record SiteStep : Type 0 where
   pub left : Tally
 
 -- three numbers that make no event make no step
-abbrev pub step_of : Parsed → List Window → Site → Site → Tally → Tally → List SiteStep
-step_of Malformed ws s t x y = []
-step_of (Good e) ws s t x y = record { call = record { event = e; windows = ws }; before = s; behind = t; lent = x; left = y } ∷ []
+abbrev pub step_of : (Option Event) → List Window → Site → Site → Tally → Tally → List SiteStep
+step_of None ws s t x y = []
+step_of (Some e) ws s t x y = record { call = record { event = e; windows = ws }; before = s; behind = t; lent = x; left = y } ∷ []
 
 -- the steps of a list of calls: those of the calls that were answered with 0
 unfoldable pub steps_by : {C M : Type 0} → (M → Did C M → List SiteStep) → M → List (Did C M) → List SiteStep

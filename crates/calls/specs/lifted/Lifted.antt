@@ -7,7 +7,7 @@ use mathlib.Core.List.{List, ◌++◌, Memᴰ}
 use Rattle.allotment.specs.Allotment.{owners_of, targets, count}
 use Rattle.node.specs.Close.{complete}
 use Rattle.node.specs.Figures.{sending}
-use Rattle.node.specs.declared.Answer.TheVariants.{Done}
+use Rattle.node.specs.Answers.{Done}
 use Rattle.site.specs.Answers.{area_size}
 use Rattle.site.specs.Load.{load_answer}
 use Rattle.site.specs.Members.{member_at, is_live}

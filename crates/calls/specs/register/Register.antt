@@ -4,7 +4,7 @@
 -- Assumes nothing.
 use Rattle.std.specs.Prelude.{◌≡◌, Bool, true, false, cond, ◌&&◌, ◌||◌, List, [], ◌∷◌, ◌++◌, ℕ, ◌-◌, ◌≤◌, eqb, length}
 use Rattle.node.specs.Answers.{number}
-use Rattle.node.specs.declared.Answer.TheVariants.{Crowded}
+use Rattle.node.specs.Answers.{Crowded}
 use Rattle.site.specs.Answers.{area_size}
 use Rattle.site.specs.Run.{RunState}
 use Rattle.node.specs.declared.Config.{Config}
@@ -20,8 +20,8 @@ use Rattle.tally.specs.declared.Tally.{Tally}
 use Rattle.recovery.specs.Calm.{live_in, live_set, Ready, Calm, whole, Risen}
 use Rattle.calls.specs.lifted.Lifted.{Claim, Agreed, Informed, Completes, Rises, Remains, Settles, SendsAbove, Heirs, FirstHeirs}
 use Rattle.script.specs.events.Events.{event_at}
-use Rattle.script.specs.declared.Parsed.{Parsed}
-use Rattle.script.specs.declared.Parsed.TheVariants.{Malformed, Good}
+use Rattle.std.specs.Prelude.{Option}
+use Rattle.std.specs.Prelude.{None, Some}
 use Rattle.sites.specs.one.Memory.{timed_of}
 use Rattle.sites.specs.one.Calls.{table_from}
 use Rattle.calls.specs.ledger.Lists.{Did, CalledAll, left_by, SiteStep, step_of, steps_by, calls_in, past_by, Threaded}
@@ -67,7 +67,7 @@ pub record LoadCalled (m : Lending) (a : ℕ) (f : Config) (rows : List ℕ) (D 
   pub group : stands_for l ≡ group_rows m.memory m.area a f rows D ws
   pub tally : u ≡ tally_loaded m.memory a f rows D ws t
 
-pub record EventCalled (m : Lending) (a : ℕ) (v : Lent) (p : Parsed) (n : ℕ) (u : Tally) (l : Lending) : Type 0 where
+pub record EventCalled (m : Lending) (a : ℕ) (v : Lent) (p : (Option Event)) (n : ℕ) (u : Tally) (l : Lending) : Type 0 where
   pub answer : n ≡ number (group_line_answer m.memory m.area a v p)
   pub group : stands_for l ≡ group_after_line m.memory m.area a v p
   pub tally : u ≡ tally_after_line m.memory m.area a v p
@@ -83,9 +83,9 @@ abbrev pub Calls : Type 0
 Calls = List (Did GroupMade Lending)
 
 -- the group's call: three numbers that make no event make none
-abbrev pub line_call : ℕ → List Window → Parsed → List GroupCall
-line_call a ws Malformed = []
-line_call a ws (Good e) = event_call a ws e ∷ []
+abbrev pub line_call : ℕ → List Window → (Option Event) → List GroupCall
+line_call a ws None = []
+line_call a ws (Some e) = event_call a ws e ∷ []
 
 abbrev pub group_call : GroupMade → List GroupCall
 group_call (LoadMade a f rows D ws t) = LoadSite a f (table_from rows) D ws ∷ []

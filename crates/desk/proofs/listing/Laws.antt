@@ -17,7 +17,7 @@ use Rattle.text.specs.Write.{decimal}
 use Rattle.text.proofs.Decimal.{digits-at-most}
 use Rattle.allotment.specs.Allotment.{owners_of}
 use Rattle.node.specs.Answers.{number, is_done}
-use Rattle.node.specs.declared.Answer.{Answer}
+use Rattle.node.specs.Answers.{Answer}
 use Rattle.site.specs.Members.{is_live, state_of}
 use Rattle.site.specs.Model.{Member}
 use Rattle.desk.specs.listing.Rows.{first_head, refusal_line, state_text, more_owners, owners_text, shown, row_text, report_line}
@@ -112,19 +112,14 @@ unfolding owners_text
 owners-none [] h = refl
 owners-none (x ∷ s) h = absurd (omega arith)
 
-owners-some : (s : List ℕ) → (length s ≡ 0 → ⊥) → owners_text s ≡ decimal (get_or s 0 0) ++ more_owners (drop 1 s)
+-- the first owner
+pub owners-left : {s : List ℕ} (x : ℕ) (more : List ℕ) {l m : List ℕ} {at i : ℕ} → s ≡ x ∷ more → at + length (owners_text s) ≤ length l
+    → Tried l at (decimal x) i m → Left l at (owners_text s) m i (more_owners more)
 unfolding owners_text
-owners-some [] h = absurd (h refl)
-owners-some (x ∷ s) h = refl
+owners-left {s} x more {l} {at = at} e h t =
+    step (decimal x) (more_owners more) (leftover (ap owners_text e) (start l at (owners_text s) h)) t
 
 module _ (s : List ℕ) where
-  -- the first owner
-  pub owners-left : {l m : List ℕ} {at i : ℕ} → (length s ≡ 0 → ⊥) → at + length (owners_text s) ≤ length l
-      → Tried l at (decimal (get_or s 0 0)) i m
-      → Left l at (owners_text s) m i (more_owners (drop 1 s))
-  owners-left {l} {at = at} z h t =
-      step (decimal (get_or s 0 0)) (more_owners (drop 1 s)) (leftover (owners-some s z) (start l at (owners_text s) h)) t
-
   -- one more owner
   pub owners-turn : {l b m n o : List ℕ} {at i j p : ℕ} (k : ℕ) → k < length s → Left l at b m i (more_owners (drop k s))
       → Tried m i (44 ∷ []) j n → Tried n j (decimal (get_or s k 0)) p o → Left l at b o p (more_owners (drop (k + 1) s))

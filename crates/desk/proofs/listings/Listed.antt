@@ -8,8 +8,8 @@ use Prim.Native.Nat.{ℕ, ◌+◌}
 use native.Mathlib.Omega.{arith}
 use lib.ListN.{length}
 use Rattle.text.specs.Read.{split}
-use Rattle.text.proofs.Pieces.{Some}
-use Rattle.node.specs.declared.Answer.TheVariants.{Done}
+use Rattle.text.proofs.Pieces.{HasPiece}
+use Rattle.node.specs.Answers.{Done}
 use Rattle.node.specs.Answers.{is_done}
 use Rattle.words.proofs.Tests.{hit}
 use Rattle.machine.specs.timed.Timed.{timed_load_answer}
@@ -38,7 +38,7 @@ lines-run ws w [] = refl
 lines-run ws w (l ∷ []) = refl
 lines-run ws w (l ∷ m ∷ ls) = lines-run ws (line_after ws w (event_of l)) (m ∷ ls) ∙ sym (run-line ws w (event_of l) (events_in (m ∷ ls)))
 
-some-append : (a : List (List ℕ)) (m : List ℕ) (ls : List (List ℕ)) → Some (a ++ (m ∷ ls))
+some-append : (a : List (List ℕ)) (m : List ℕ) (ls : List (List ℕ)) → HasPiece (a ++ (m ∷ ls))
 some-append [] m ls = tt
 some-append (l ∷ a) m ls = tt
 

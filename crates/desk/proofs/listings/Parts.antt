@@ -11,9 +11,7 @@ use lib.ListN.{length, drop, length-drop, replicate, length-replicate}
 use Rattle.lists.specs.Bytes.{Put, Tried}
 use Rattle.lists.proofs.Chain.{Left, none, start, step, next, finish, room_for, leftover, recast, length-put}
 use Rattle.text.specs.Read.{split}
-use Rattle.node.specs.Answers.{number, is_done}
-use Rattle.node.specs.declared.Answer.{Answer}
-use Rattle.node.specs.declared.Answer.TheVariants.{Done, NoRoom, BadWindows}
+use Rattle.node.specs.Answers.{Answer, Done, NoRoom, BadWindows, answered}
 use Rattle.site.specs.Answers.{area_size}
 use Rattle.site.specs.Load.{load_answer, loaded_site}
 use Rattle.node.specs.declared.Config.{Config}
@@ -24,13 +22,17 @@ use Rattle.windows.specs.declared.Window.{Window}
 use Rattle.machine.specs.Layout.{Store, store, site_in}
 use Rattle.machine.specs.timed.Timed.{Timed, loaded_timed}
 use Rattle.machine.specs.timed.Calls.{TimedState}
-use Rattle.machine.specs.timed.Stored.{timed_in, stored_load, timed_loaded_site}
+use Rattle.machine.specs.timed.Stored.{timed_in, stored_load, stored_load_answer, timed_loaded_site}
 use Rattle.machine.specs.declared.Day.{Day}
-use Rattle.machine.specs.declared.DayAnswer.{DayAnswer}
+use Rattle.node.specs.declared.Refusal.{Refusal}
+use Rattle.node.specs.declared.Refusal.TheVariants as refusal
+use Rattle.std.specs.Prelude.{Result, Ok, Err}
 use Rattle.machine.proofs.timed.Stored.{Long, as_load, as-begun}
 use Rattle.words.proofs.Tests.{never, hit, skip}
 use Rattle.script.specs.load.Opening.{Reading, refused, got, Opening, opening, config_read, read_back}
-use Rattle.script.specs.declared.ScriptHead.{ScriptHead}
+use Rattle.script.specs.declared.Opened.{Opened}
+use Rattle.script.specs.declared.RefusedHead.{RefusedHead}
+use Rattle.machine.specs.timed.Timed.{first_epoch}
 use Rattle.script.proofs.load.Outcome.{WellFormed, opening-fine, opening-loads}
 use Rattle.desk.specs.listing.Rows.{first_head, refusal_line}
 use Rattle.desk.proofs.listing.Laws.{refusal-put, tried-none}
@@ -38,11 +40,10 @@ use Rattle.desk.proofs.reasons.Closes.{split-sized}
 use Rattle.desk.specs.listings.Output.{top_script, events_in, run_by, day_fits, left_area, body, body_area, unfit, output_of, final_area}
 use Rattle.desk.specs.listings.Output as desk
 use Rattle.desk.specs.listings.Why.{reasons_head, head_part, why_body, why_of}
-use Rattle.desk.specs.listings.Calls.{text_of, room_of, output_fits, run_answer, run_length, run_result_of, out_after, area_after_run}
+use Rattle.desk.specs.listings.Calls.{text_of, room_of, output_fits, run_answer, run_result_of, out_after, area_after_run}
 use Rattle.desk.specs.listings.Calls.{length_after}
 use Rattle.desk.specs.listings.Inner.{lines_text, Runs, opening_of, lines_of, has_head, refusal_text, head_text, rest_text, ran_text}
 use Rattle.desk.specs.listings.Inner.{open_text, Fits}
-use Rattle.desk.specs.declared.RunResult.{RunResult}
 use Rattle.desk.specs.declared.View.{View}
 use Rattle.desk.specs.declared.View.TheVariants.{Refusals, Reasons}
 use Rattle.desk.proofs.listings.Bound.{refused-short, room-some, open-short}
@@ -76,40 +77,43 @@ pub zeros-long : Long zeros
 zeros-long = (omega (arith, length-replicate {A = ℕ} 262 0), omega (arith, length-replicate {A = ℕ} 24769 0))
 
 -- what a load of settings and table that were read answers tells whether the list keeps the rules
-module _ (D : ℕ) (ws : List Window) (o : ScriptHead) (loads : load_answer o.config o.table ≡ Done) (r : DayAnswer)
+module _ (D : ℕ) (ws : List Window) (o : Opened) (loads : load_answer o.config o.table ≡ Done) {r : Result Day Refusal}
     (e : r ≡ stored_load zeros o.config o.table D ws) where
-  answer-is : r.answer ≡ cond (day_fits D ws (opening_of o)) Done BadWindows
-  answer-is = ap (λ (x : DayAnswer). x.answer) e ∙ as_load zeros o.config o.table D ws zeros-long loads
+  answer-is : stored_load_answer zeros o.config o.table D ws ≡ cond (day_fits D ws (opening_of o)) Done BadWindows
+  answer-is = as_load zeros o.config o.table D ws zeros-long loads
 
-  pub not-loaded : is_done r.answer ≡ false → (day_fits D ws (opening_of o) ≡ false) × (r.answer ≡ BadWindows)
-  not-loaded k = go (day_fits D ws (opening_of o)) refl
+  result-is : (t : Bool) → day_fits D ws (opening_of o) ≡ t → r ≡ answered (cond t Done BadWindows) (first_epoch D)
+  result-is t h = e ∙ ap (λ (a : Answer). answered a (first_epoch D)) answer-is
+      ∙ ap (λ (b : Bool). answered (cond b Done BadWindows) (first_epoch D)) h
+
+  pub not-loaded : {x : Refusal} → r ≡ Err x → (day_fits D ws (opening_of o) ≡ false) × (x ≡ refusal.BadWindows)
+  not-loaded {x} k = go (day_fits D ws (opening_of o)) refl
     where
-      go : (t : Bool) → day_fits D ws (opening_of o) ≡ t → (day_fits D ws (opening_of o) ≡ false) × (r.answer ≡ BadWindows)
-      go true h = never (sym (ap is_done (answer-is ∙ hit _ _ _ h)) ∙ k)
-      go false h = (h, answer-is ∙ skip _ _ _ _ h refl)
+      go : (t : Bool) → day_fits D ws (opening_of o) ≡ t → (day_fits D ws (opening_of o) ≡ false) × (x ≡ refusal.BadWindows)
+      go true h = let q = result-is true h in absurd (let z : ◌≡◌ {A = ℕ} 0 1 = cc in omega arith)
+      go false h = let q = result-is false h in (h, cc)
 
   -- an accepted one has the list keep the rules, and its storage is the site that the events begin with
-  pub loaded : is_done r.answer ≡ true → (u : Store) → site_in u ≡ timed_loaded_site zeros o.config o.table D ws
-      → (day_fits D ws (opening_of o) ≡ true) × (timed_in u r.day ≡ loaded_timed o.config o.table D ws)
-  loaded k u q = go (day_fits D ws (opening_of o)) refl
+  pub loaded : {d : Day} → r ≡ Ok d → (u : Store) → site_in u ≡ timed_loaded_site zeros o.config o.table D ws
+      → (day_fits D ws (opening_of o) ≡ true) × (timed_in u d ≡ loaded_timed o.config o.table D ws)
+  loaded {d} k u q = go (day_fits D ws (opening_of o)) refl
     where
       go : (t : Bool) → day_fits D ws (opening_of o) ≡ t → (day_fits D ws (opening_of o) ≡ true)
-          × (timed_in u r.day ≡ loaded_timed o.config o.table D ws)
-      go true h = (
-        h,
-        as-begun zeros u o.config o.table D ws r.day
-            (sym (ap (λ (x : DayAnswer). x.answer) e) ∙ answer-is ∙ hit _ _ _ h) (ap (λ (x : DayAnswer). x.day) e) q,
-      )
-      go false h = never (sym k ∙ ap is_done (answer-is ∙ skip _ _ _ _ h refl))
+          × (timed_in u d ≡ loaded_timed o.config o.table D ws)
+      go true h =
+          let p = result-is true h in
+          let g : d ≡ first_epoch D = cc in
+          (h, as-begun zeros u o.config o.table D ws d (answer-is ∙ hit _ _ _ h) g q)
+      go false h = let p = result-is false h in absurd (let z : ◌≡◌ {A = ℕ} 0 1 = cc in omega arith)
 
 -- the loaded site keeps the rules of its list
-pub begun-list : (D : ℕ) (ws : List Window) (o : ScriptHead) (u : Store) (d : Day) → day_fits D ws (opening_of o) ≡ true
+pub begun-list : (D : ℕ) (ws : List Window) (o : Opened) (u : Store) (d : Day) → day_fits D ws (opening_of o) ≡ true
     → timed_in u d ≡ loaded_timed o.config o.table D ws → list_ok (site_in u).config.nodes d.length ws ≡ true
 unfolding loaded_timed loaded_site
 begun-list D ws o u d h q = ap (λ (t : Timed). list_ok t.site.config.nodes t.day.length ws) q ∙ h
 
 -- a script that opens, with a list that is refused
-module _ (v : View) (D : ℕ) (ws : List Window) (s : List ℕ) (o : ScriptHead) (a : List ℕ) (bad : day_fits D ws (opening_of o) ≡ false) where
+module _ (v : View) (D : ℕ) (ws : List Window) (s : List ℕ) (o : Opened) (a : List ℕ) (bad : day_fits D ws (opening_of o) ≡ false) where
   pub bad-put : {out m : List ℕ} {r : ℕ} (x : Answer) → x ≡ BadWindows → Put out 0 (refusal_text v o.config.split 0 x) r m
       → Put out 0 (open_text v D ws (opening_of o) a (lines_of s o)) r m
   bad-put x e p = recast (ap (refusal_text v o.config.split 0) e ∙ sym (skip _ _ _ _ bad refl)) p
@@ -122,7 +126,7 @@ abbrev state : Timed → List ℕ → TimedState
 state t a = record { timed = t; area = a }
 
 -- a script that is run, and the site that it begins with
-module _ (v : View) (D : ℕ) (ws : List Window) (s : List ℕ) (o : ScriptHead) (a : List ℕ) (b : Timed)
+module _ (v : View) (D : ℕ) (ws : List Window) (s : List ℕ) (o : Opened) (a : List ℕ) (b : Timed)
     (fine : day_fits D ws (opening_of o) ≡ true)
     (e : b ≡ loaded_timed o.config o.table D ws) where
   abbrev text : Timed → List ℕ
@@ -180,8 +184,8 @@ unfolding output_of why_of
 fit-text Refusals D ws s a h = rw h
 fit-text (Reasons j) D ws s a h = rw h
 
-refused-text : (v : View) (D : ℕ) (ws : List Window) (k : ℕ) (a : List ℕ) (n : ℕ) (x : Answer) → read_text v D ws k a (refused n x)
-    ≡ refusal_text v k n x
+refused-text : (v : View) (D : ℕ) (ws : List Window) (k : ℕ) (a : List ℕ) (n : ℕ) (x : Refusal) → read_text v D ws k a (refused n x)
+    ≡ refusal_text v k n (Err x)
 refused-text Refusals D ws k a n x = refl
 refused-text (Reasons j) D ws k a n x = refl
 
@@ -224,33 +228,28 @@ module _ (v : View) (D : ℕ) (ws : List Window) (s a : List ℕ) where
       → Put out 0 (text_of v D ws s a) r m × (r ≤ room_of v (length s))
   refusal_is k n x e p = (recast (sym e) p, omega (arith, p.to, refused-short v k n x, room-some v (length s)))
 
-  module _ (h : area_size ≤ length a) (k : length s ≤ top_script) (o : ScriptHead) (e : read_back s o ≡ opening (split 10 s))
-      (read : o.config ≡ config_read (split 10 s)) where
+  module _ (h : area_size ≤ length a) (k : length s ≤ top_script) where
     fits-is : unfit s a ≡ false
     fits-is = rw (le-ltb (length a) area_size h, le-ltb top_script (length s) k)
 
-    read_back_lem : (t : Bool) → is_done o.answer ≡ t → opening (split 10 s)
-        ≡ cond t (got (opening_of o) (lines_of s o)) (refused o.line o.answer)
-    read_back_lem t g = sym e ∙ ap (λ (b : Bool). cond b (got (opening_of o) (lines_of s o)) (refused o.line o.answer)) g
-
-    whole : (r : Reading Opening) → opening (split 10 s) ≡ r → text_of v D ws s a ≡ read_text v D ws o.config.split a r
-    whole r g =
+    whole : {f : Config} (r : Reading Opening) → f ≡ config_read (split 10 s) → opening (split 10 s) ≡ r
+        → text_of v D ws s a ≡ read_text v D ws f.split a r
+    whole r read g =
         fit-text v D ws s a fits-is ∙ ap₂ (λ (f : Config) (y : Reading Opening). read_text v D ws f.split a y) (sym read) g
 
-    pub refused-is : is_done o.answer ≡ false → (text_of v D ws s a ≡ refusal_text v o.config.split o.line o.answer)
-        × (final_area D ws s a ≡ a)
-    refused-is g = (
-      whole _ (read_back_lem false g) ∙ refused-text v D ws o.config.split a o.line o.answer,
-      fit_is fits-is
-          ∙ ap (body_area D ws a) (read_back_lem false g),
+    pub refused-is : (e : RefusedHead) → read_back s (Err e) ≡ opening (split 10 s) → e.config ≡ config_read (split 10 s)
+        → (text_of v D ws s a ≡ refusal_text v e.config.split e.line (Err e.refusal)) × (final_area D ws s a ≡ a)
+    refused-is e g read = (
+      whole _ read (sym g) ∙ refused-text v D ws e.config.split a e.line e.refusal,
+      fit_is fits-is ∙ ap (body_area D ws a) (sym g),
     )
 
-    module _ (g : is_done o.answer ≡ true) (f : o.at ≤ length s) where
+    module _ (o : Opened) (e : read_back s (Ok o) ≡ opening (split 10 s)) (read : o.config ≡ config_read (split 10 s)) (f : o.at ≤ length s) where
       opens-is : text_of v D ws s a ≡ open_text v D ws (opening_of o) a (lines_of s o)
-      opens-is = whole _ (read_back_lem true g) ∙ opened-text v D ws a (opening_of o) (lines_of s o)
+      opens-is = whole _ read (sym e) ∙ opened-text v D ws a (opening_of o) (lines_of s o)
 
       fine : WellFormed (split 10 s) (opening_of o) (lines_of s o)
-      fine = opening-fine (split 10 s) (opening_of o) (lines_of s o) (read_back_lem true g)
+      fine = opening-fine (split 10 s) (opening_of o) (lines_of s o) (sym e)
 
       opens-short : length (open_text v D ws (opening_of o) a (lines_of s o)) ≤ room_of v (length s)
       opens-short = open-short D ws s a (opening_of o) (lines_of s o) fine k
@@ -262,7 +261,7 @@ module _ (v : View) (D : ℕ) (ws : List Window) (s a : List ℕ) where
           record {
             nodes = fine.limits.nodes;
             slots = fine.limits.slots;
-            loads = opening-loads (split 10 s) (opening_of o) (lines_of s o) (read_back_lem true g);
+            loads = opening-loads (split 10 s) (opening_of o) (lines_of s o) (sym e);
             from = f;
             short = k;
             some = omega (arith, room-some v (length s));
@@ -275,47 +274,47 @@ module _ (v : View) (D : ℕ) (ws : List Window) (s a : List ℕ) where
 
       -- the area of the run is the last one
       pub opens-area : {c : List ℕ} → c ≡ left_area D ws (opening_of o) a (lines_of s o) → c ≡ final_area D ws s a
-      opens-area m = m ∙ sym (fit_is fits-is ∙ ap (body_area D ws a) (read_back_lem true g))
+      opens-area m = m ∙ sym (fit_is fits-is ∙ ap (body_area D ws a) (sym e))
 
 -- what the calls answer and leave: without room, and with it
 module _ (v : View) (D : ℕ) (ws : List Window) (s a out : List ℕ) where
   pub no_room : length out < room_of v (length s)
-      → (record { answer = NoRoom; length = 0 } ≡ run_result_of v D ws s a out) × (out ≡ out_after v D ws s a out)
+      → (Err refusal.NoRoom ≡ run_result_of v D ws s a out) × (out ≡ out_after v D ws s a out)
       × (a ≡ area_after_run v D ws s a out)
-  unfolding run_answer run_length out_after area_after_run
+  unfolding run_answer out_after area_after_run
   no_room h =
       let e : output_fits v s out ≡ false = lt-leb (room_of v (length s)) (length out) h in
       (rw e, rw e, rw e)
 
   pub with-room : {m b : List ℕ} {n : ℕ} → room_of v (length s) ≤ length out → Put out 0 (text_of v D ws s a) n m → b ≡ final_area D ws s a
-      → (record { answer = Done; length = n } ≡ run_result_of v D ws s a out) × (m ≡ out_after v D ws s a out)
+      → (Ok n ≡ run_result_of v D ws s a out) × (m ≡ out_after v D ws s a out)
       × (b ≡ area_after_run v D ws s a out)
-  unfolding run_answer run_length out_after area_after_run
+  unfolding run_answer out_after area_after_run
   with-room {m} {b} {n} h p f =
       let e : output_fits v s out ≡ true = le-leb (room_of v (length s)) (length out) h in
       let l : n ≡ length (text_of v D ws s a) = omega (arith, p.to) in
       (rw (e, l), rw e p.is, rw e f)
 
-  -- an answer of the run, and what the call for C makes of it
-  pub run-done : (r : RunResult) (n : ℕ) → r ≡ run_result_of v D ws s a out → is_done r.answer ≡ true → (0 ≡ number (run_answer v s out))
-      × (r.length ≡ length_after v D ws s a out n)
-  unfolding run_answer run_length length_after
-  run-done r n e h = go (output_fits v s out) (ap (λ (x : RunResult). x.length) e) (sym (ap (λ (x : RunResult). is_done x.answer) e) ∙ h)
-    where
-      go : (t : Bool) → r.length ≡ cond t (length (text_of v D ws s a)) 0 → is_done (cond t Done NoRoom) ≡ true
-          → (0 ≡ number (cond t Done NoRoom)) × (r.length ≡ cond t (length (text_of v D ws s a)) n)
-      go true l d = (refl, l)
-      go false l d = absurd (let z : ◌≡◌ {A = ℕ} 0 1 = cc in omega arith)
-
-  pub run-refused : (r : RunResult) (n : ℕ) → r ≡ run_result_of v D ws s a out → is_done r.answer ≡ false
-      → (number r.answer ≡ number (run_answer v s out)) × (n ≡ length_after v D ws s a out n)
+  -- an answer of the run, and the length that the call for C writes
+  pub run-done : {r : Result ℕ Refusal} {n : ℕ} (m : ℕ) → r ≡ run_result_of v D ws s a out → r ≡ Ok n
+      → (Done ≡ run_answer v s out) × (n ≡ length_after v D ws s a out m)
   unfolding run_answer length_after
-  run-refused r n e h =
-      (ap (λ (x : RunResult). number x.answer) e, go (output_fits v s out) (sym (ap (λ (x : RunResult). is_done x.answer) e) ∙ h))
+  run-done {r} {n} m e h = go (output_fits v s out) e
     where
-      go : (t : Bool) → is_done (cond t Done NoRoom) ≡ false → n ≡ cond t (length (text_of v D ws s a)) n
-      go true d = absurd (let z : ◌≡◌ {A = ℕ} 0 1 = cc in omega arith)
-      go false d = refl
+      go : (t : Bool) → r ≡ answered (cond t Done NoRoom) (length (text_of v D ws s a))
+          → (Done ≡ cond t Done NoRoom) × (n ≡ cond t (length (text_of v D ws s a)) m)
+      go true l = (refl, cc)
+      go false l = absurd (let z : ◌≡◌ {A = ℕ} 0 1 = cc in omega arith)
+
+  pub run-refused : {r : Result ℕ Refusal} {x : Refusal} (m : ℕ) → r ≡ run_result_of v D ws s a out → r ≡ Err x
+      → (Err x ≡ run_answer v s out) × (m ≡ length_after v D ws s a out m)
+  unfolding run_answer length_after
+  run-refused {r} {x} m e h = go (output_fits v s out) e
+    where
+      go : (t : Bool) → r ≡ answered (cond t Done NoRoom) (length (text_of v D ws s a))
+          → (Err x ≡ cond t Done NoRoom) × (m ≡ cond t (length (text_of v D ws s a)) m)
+      go true l = absurd (let z : ◌≡◌ {A = ℕ} 0 1 = cc in omega arith)
+      go false l = (cc, refl)
 
 -- what is printed ends within the output
 pub ends-within : {out m b : List ℕ} {n : ℕ} → n ≤ length out → Put out 0 b n m → n ≤ length m

@@ -1,12 +1,10 @@
 -- A node's line, part by part; the nodes' lines, one by one.
 -- Assumes nothing.
 use mathlib.Core.Path.{◌≡◌, refl, sym, ap, ◌∙◌}
-use mathlib.Core.Bool.{true, false}
 use mathlib.Core.List.{List, [], ◌∷◌, ◌++◌, append_assoc}
 use Prim.Native.Nat.{ℕ, zero, suc, ◌+◌, ◌-◌, ◌≤◌, ◌<◌}
 use native.Mathlib.Omega.{arith}
 use lib.ListN.{length, length-append, get_or, get_or-eq_default}
-use Rattle.words.proofs.Tests.{hit, skip}
 use Rattle.lists.specs.Bytes.{Put, Tried}
 use Rattle.lists.proofs.Chain.{start, step, finish-by, leftover}
 use Rattle.text.specs.Write.{decimal}
@@ -14,8 +12,7 @@ use Rattle.text.proofs.Decimal.{digits-at-most}
 use Rattle.node.specs.declared.Ground.{Ground}
 use Rattle.node.specs.declared.Rule.{Rule}
 use Rattle.node.specs.declared.Rule.TheVariants.{RequestMissing, NoMajority, OwnLower, Repeating, AtTop, NotDue, NewSent}
-use Rattle.machine.specs.reports.Reports.{no_node_report}
-use Rattle.machine.specs.declared.NodeReport.{NodeReport}
+use Rattle.std.specs.Prelude.{Option, Some, None}
 use Rattle.desk.specs.reasons.Reasons.{rule_text, reason_line, reason, reason_of}
 use Rattle.desk.specs.reasons.Inner.{rule_field}
 
@@ -64,28 +61,28 @@ line-put n j g {l} h t1 t2 t3 t4 t5 t6 t7 =
     finish-by (10 ∷ []) (step (decimal g.missing) (10 ∷ []) q5 t6) t7
 
 -- a node that reports, and one that doesn't
-pub reason-some : (n j : ℕ) (t : NodeReport) → t.live ≡ true → reason_line n j t.grounds ≡ reason n j t
+pub reason-some : (n j : ℕ) {t : Option Ground} (g : Ground) → t ≡ Some g → reason_line n j g ≡ reason n j t
 unfolding reason
-reason-some n j t e = sym (hit _ _ _ e)
+reason-some n j g e = sym (ap (reason n j) e)
 
-pub reason-none : (n j : ℕ) (t : NodeReport) → t.live ≡ false → reason n j t ≡ []
+pub reason-none : (n j : ℕ) {t : Option Ground} → t ≡ None → reason n j t ≡ []
 unfolding reason
-reason-none n j t e = skip _ _ _ _ e refl
+reason-none n j e = ap (reason n j) e
 
 -- the line of a node: none of 0, and none from 33 up where there are 32 reports
-pub reason-zero : (j n : ℕ) (ts : List NodeReport) → j ≡ 0 → reason_of j n ts ≡ []
+pub reason-zero : (j n : ℕ) (ts : List (Option Ground)) → j ≡ 0 → reason_of j n ts ≡ []
 unfolding reason_of
 reason-zero zero n ts h = refl
 reason-zero (suc i) n ts h = absurd (omega arith)
 
-pub reason-at : (j n : ℕ) (ts : List NodeReport) → 0 < j → reason n j (get_or ts (j - 1) no_node_report) ≡ reason_of j n ts
+pub reason-at : (j n : ℕ) (ts : List (Option Ground)) → 0 < j → reason n j (get_or ts (j - 1) None) ≡ reason_of j n ts
 unfolding reason_of
 reason-at zero n ts h = absurd (omega arith)
 reason-at (suc i) n ts h =
     let z : suc i - 1 ≡ i = omega arith in
-    ap (λ (k : ℕ). reason n (suc i) (get_or ts k no_node_report)) z
+    ap (λ (k : ℕ). reason n (suc i) (get_or ts k None)) z
 
-pub reason-out : (j n : ℕ) (ts : List NodeReport) → length ts < j → reason_of j n ts ≡ []
+pub reason-out : (j n : ℕ) (ts : List (Option Ground)) → length ts < j → reason_of j n ts ≡ []
 reason-out j n ts h =
-    sym (reason-at j n ts (omega arith)) ∙ ap (reason n j) (get_or-eq_default ts no_node_report (omega arith))
-    ∙ reason-none n j no_node_report refl
+    sym (reason-at j n ts (omega arith)) ∙ ap (reason n j) (get_or-eq_default ts None (omega arith))
+    ∙ reason-none n j refl

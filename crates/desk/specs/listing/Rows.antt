@@ -9,7 +9,7 @@ use Rattle.text.specs.Ascii.{ascii}
 use Rattle.text.specs.Write.{decimal}
 use Rattle.allotment.specs.Allotment.{owners_of}
 use Rattle.node.specs.Answers.{number, is_done}
-use Rattle.node.specs.declared.Answer.{Answer}
+use Rattle.node.specs.Answers.{Answer}
 use Rattle.site.specs.Members.{nobody, is_live, state_of}
 use Rattle.site.specs.Model.{Member}
 use Rattle.site.specs.declared.State.{State}

@@ -2,16 +2,13 @@
 -- refusals of its lines with the rows behind them (`replay`), or the reasons of a node (`why`).
 -- Refused as 15: output shorter than the room that a script of this length may need. Then nothing is changed.
 -- Assumes nothing.
-use Rattle.std.specs.Prelude.{Bool, cond, List, ℕ, leb, length}
+use Rattle.std.specs.Prelude.{Bool, cond, Result, List, ℕ, leb, length}
 use Rattle.lists.specs.Bytes.{written}
-use Rattle.node.specs.Answers.{number}
-use Rattle.node.specs.declared.Answer.{Answer}
-use Rattle.node.specs.declared.Answer.TheVariants.{Done, NoRoom}
+use Rattle.node.specs.Answers.{Answer, Done, NoRoom, answered}
+use Rattle.node.specs.declared.Refusal.{Refusal}
 use Rattle.windows.specs.declared.Window.{Window}
 use Rattle.desk.specs.listings.Output.{output_of, final_area, room_for}
 use Rattle.desk.specs.listings.Why.{why_of, why_room}
-use Rattle.desk.specs.declared.RunResult.{RunResult}
-use Rattle.desk.specs.declared.Replayed.{Replayed}
 use Rattle.desk.specs.declared.View.{View}
 use Rattle.desk.specs.declared.View.TheVariants.{Refusals, Reasons}
 
@@ -33,13 +30,9 @@ output_fits v script out = leb (room_of v (length script)) (length out)
 unfoldable pub run_answer : View → List ℕ → List ℕ → Answer
 run_answer v script out = cond (output_fits v script out) Done NoRoom
 
--- the length of what is printed; 0 after a refusal
-unfoldable pub run_length : View → ℕ → List Window → List ℕ → List ℕ → List ℕ → ℕ
-run_length v D ws script area out = cond (output_fits v script out) (length (text_of v D ws script area)) 0
-
--- the answer with the length
-abbrev pub run_result_of : View → ℕ → List Window → List ℕ → List ℕ → List ℕ → RunResult
-run_result_of v D ws script area out = record { answer = run_answer v script out; length = run_length v D ws script area out }
+-- the length of what is printed, or the refusal
+abbrev pub run_result_of : View → ℕ → List Window → List ℕ → List ℕ → List ℕ → Result ℕ Refusal
+run_result_of v D ws script area out = answered (run_answer v script out) (length (text_of v D ws script area))
 
 -- the output: what is printed stands at its start, and every byte behind it is as it was
 unfoldable pub out_after : View → ℕ → List Window → List ℕ → List ℕ → List ℕ → List ℕ
@@ -52,7 +45,3 @@ area_after_run v D ws script area out = cond (output_fits v script out) (final_a
 -- the number that the length is written to: as it was after a refusal
 unfoldable pub length_after : View → ℕ → List Window → List ℕ → List ℕ → List ℕ → ℕ → ℕ
 length_after v D ws script area out n = cond (output_fits v script out) (length (text_of v D ws script area)) n
-
--- the number that the call for C returns, and the one that it writes
-abbrev pub replayed_of : View → ℕ → List Window → List ℕ → List ℕ → List ℕ → ℕ → Replayed
-replayed_of v D ws script area out n = record { code = number (run_answer v script out); length = length_after v D ws script area out n }

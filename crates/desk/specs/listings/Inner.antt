@@ -1,33 +1,29 @@
 -- Only the contracts of private functions cite these: no public contract and no theorem does.
 -- A line's step, the run of the event lines, and the parts of what a view of the run prints.
 -- Assumes nothing.
-use Rattle.std.specs.Prelude.{◌≡◌, Bool, true, cond, List, [], ◌++◌, ℕ, ◌+◌, ◌≤◌, eqb, length, drop}
+use Rattle.std.specs.Prelude.{◌≡◌, Bool, true, cond, Option, Some, None, List, [], ◌++◌, ℕ, ◌+◌, ◌≤◌, eqb, length, drop}
 use Rattle.lists.specs.Bytes.{Put}
 use Rattle.text.specs.Read.{split}
 use Rattle.windows.specs.declared.Window.{Window}
-use Rattle.node.specs.declared.Answer.{Answer}
-use Rattle.node.specs.declared.Answer.TheVariants.{Done, BadWindows}
+use Rattle.node.specs.Answers.{Answer}
+use Rattle.node.specs.Answers.{Done, BadWindows}
 use Rattle.site.specs.Load.{load_answer}
 use Rattle.site.specs.declared.Event.{Event}
 use Rattle.site.specs.Model.{Member}
 use Rattle.machine.specs.Layout.{Store, site_in}
-use Rattle.machine.specs.reports.Reports.{no_node_report, node_report_in}
-use Rattle.machine.specs.declared.NodeReport.{NodeReport}
+use Rattle.node.specs.declared.Ground.{Ground}
+use Rattle.machine.specs.reports.Reports.{node_report_in}
 use Rattle.machine.specs.timed.Calls.{TimedState}
 use Rattle.machine.specs.timed.Stored.{timed_in}
 use Rattle.machine.specs.declared.Day.{Day}
-use Rattle.machine.specs.declared.DayAnswer.{DayAnswer}
-use Rattle.script.specs.declared.Parsed.{Parsed}
-use Rattle.script.specs.declared.Parsed.TheVariants.{Malformed, Good}
 use Rattle.script.specs.load.Opening.{Opening}
-use Rattle.script.specs.declared.ScriptHead.{ScriptHead}
+use Rattle.script.specs.declared.Opened.{Opened}
 use Rattle.desk.specs.listing.Rows.{first_head, refusal_line, rows_text}
 use Rattle.desk.specs.reasons.Reasons.{reason}
-use Rattle.desk.specs.listings.Output.{second_head, top_script, events_in, run_by, line_answer, line_after, refused_lines, loaded_state}
+use Rattle.desk.specs.listings.Output.{second_head, top_script, events_in, run_by, refused_lines, loaded_state}
 use Rattle.desk.specs.listings.Output.{finished}
 use Rattle.desk.specs.listings.Output.{day_fits}
 use Rattle.desk.specs.listings.Why.{reason_lines, refusal_part, head_part}
-use Rattle.desk.specs.declared.LineResult.{LineResult}
 use Rattle.desk.specs.declared.View.{View}
 use Rattle.desk.specs.declared.View.TheVariants.{Refusals, Reasons}
 
@@ -35,26 +31,18 @@ use Rattle.desk.specs.declared.View.TheVariants.{Refusals, Reasons}
 abbrev pub run_state_in : Store → Day → List ℕ → TimedState
 run_state_in s d a = record { timed = timed_in s d; area = a }
 
--- the answer to a line with the day after it
-abbrev pub line_day_answer : List Window → TimedState → Parsed → DayAnswer
-line_day_answer ws w p = record { answer = line_answer ws w p; day = (line_after ws w p).timed.day }
-
 -- what is told of an event of a site in storage, were it the next one: where the reasons of a node are asked for, what the node reports
-abbrev pub event_node_report : View → Store → List ℕ → Event → NodeReport
-event_node_report Refusals s a e = no_node_report
+abbrev pub event_node_report : View → Store → List ℕ → Event → Option Ground
+event_node_report Refusals s a e = None
 event_node_report (Reasons j) s a e = node_report_in s a e j
 
 -- the same of a line: of a malformed one nothing
-abbrev pub line_node_report : View → Store → List ℕ → Parsed → NodeReport
-line_node_report v s a Malformed = no_node_report
-line_node_report v s a (Good e) = event_node_report v s a e
-
--- what a line gives
-abbrev pub line_taken : View → List Window → Store → Day → List ℕ → Parsed → LineResult
-line_taken v ws s d a p = record { step = line_day_answer ws (run_state_in s d a) p; report = line_node_report v s a p }
+abbrev pub line_node_report : View → Store → List ℕ → Option Event → Option Ground
+line_node_report v s a None = None
+line_node_report v s a (Some e) = event_node_report v s a e
 
 -- what is printed of a line
-abbrev pub line_text : View → ℕ → Answer → NodeReport → List ℕ
+abbrev pub line_text : View → ℕ → Answer → Option Ground → List ℕ
 line_text Refusals n a t = refusal_line n a
 line_text (Reasons j) n a t = reason n j t
 
@@ -71,10 +59,10 @@ pub record Runs (v : View) (ws : List Window) (w : TimedState) (n : ℕ) (ls : L
   pub put : Put out at (lines_text v ws w n ls) to printed
 
 -- settings and table that were read, and the event lines behind them
-abbrev pub opening_of : ScriptHead → Opening
+abbrev pub opening_of : Opened → Opening
 opening_of o = record { config = o.config; table = o.table }
 
-abbrev pub lines_of : List ℕ → ScriptHead → List (List ℕ)
+abbrev pub lines_of : List ℕ → Opened → List (List ℕ)
 lines_of script o = split 10 (drop o.at script)
 
 -- whether a view has a head: the reasons of a node are a part behind it
@@ -107,7 +95,7 @@ abbrev pub open_text : View → ℕ → List Window → Opening → List ℕ →
 open_text v D ws o area ls = cond (day_fits D ws o) (ran_text v D ws o area ls) (refusal_text v o.config.split 0 BadWindows)
 
 -- a script that opens, with figures within their ranges, a table that loads, and room for what is printed
-pub record Fits (v : View) (D : ℕ) (ws : List Window) (script : List ℕ) (o : ScriptHead) (area out : List ℕ) : Type 0 where
+pub record Fits (v : View) (D : ℕ) (ws : List Window) (script : List ℕ) (o : Opened) (area out : List ℕ) : Type 0 where
   pub nodes : o.config.nodes ≤ 32
   pub slots : o.config.slots ≤ 80
   pub loads : load_answer o.config o.table ≡ Done

@@ -1,11 +1,11 @@
 -- The run of a whole script (specification, 7 Script and 8 Listing), with a day of D epochs and a list of windows that
 -- is lent to the load and to each end (3.7 Demands by the hour): what is printed, and what the packet area holds then.
 -- Assumes nothing.
-use Rattle.std.specs.Prelude.{Bool, cond, ◌||◌, List, [], ◌∷◌, ◌++◌, map, ℕ, min, ◌+◌, ◌*◌, ltb, length}
+use Rattle.std.specs.Prelude.{Bool, cond, ◌||◌, Option, Some, None, Err, List, [], ◌∷◌, ◌++◌, map, ℕ, min, ◌+◌, ◌*◌, ltb, length}
 use Rattle.text.specs.Ascii.{ascii}
 use Rattle.text.specs.Read.{split}
-use Rattle.node.specs.declared.Answer.{Answer}
-use Rattle.node.specs.declared.Answer.TheVariants.{OutOfRange, NoRoom, BadWindows}
+use Rattle.node.specs.Answers.{Answer}
+use Rattle.node.specs.Answers.{OutOfRange, NoRoom, BadWindows}
 use Rattle.site.specs.Answers.{area_size}
 use Rattle.site.specs.declared.Event.{Event}
 use Rattle.windows.specs.Windows.{list_ok}
@@ -13,8 +13,6 @@ use Rattle.windows.specs.declared.Window.{Window}
 use Rattle.machine.specs.timed.Timed.{loaded_timed, timed_answer}
 use Rattle.machine.specs.timed.Calls.{Call, TimedState, after_call, run_calls}
 use Rattle.script.specs.events.Events.{event_of}
-use Rattle.script.specs.declared.Parsed.{Parsed}
-use Rattle.script.specs.declared.Parsed.TheVariants.{Malformed, Good}
 use Rattle.script.specs.load.Opening.{Reading, refused, got, Opening, opening, config_read}
 use Rattle.desk.specs.listing.Rows.{first_head, refusal_line, rows_text}
 
@@ -27,9 +25,9 @@ abbrev pub top_script : ℕ
 top_script = 40000
 
 -- the events among parsed lines: a malformed line is none
-abbrev pub event_in : Parsed → List Event
-event_in Malformed = []
-event_in (Good e) = e ∷ []
+abbrev pub event_in : Option Event → List Event
+event_in None = []
+event_in (Some e) = e ∷ []
 
 -- the events of the lines, in order; what stands behind the last byte 10 is no line that is run
 unfoldable pub events_in : List (List ℕ) → List Event
@@ -49,14 +47,14 @@ abbrev pub run_by : List Window → TimedState → List Event → TimedState
 run_by ws w es = run_calls w (calls_of ws es)
 
 -- the answer to a line
-abbrev pub line_answer : List Window → TimedState → Parsed → Answer
-line_answer ws w Malformed = OutOfRange
-line_answer ws w (Good e) = timed_answer w.timed w.area ws e
+abbrev pub line_answer : List Window → TimedState → Option Event → Answer
+line_answer ws w None = OutOfRange
+line_answer ws w (Some e) = timed_answer w.timed w.area ws e
 
 -- the state after a line
-abbrev pub line_after : List Window → TimedState → Parsed → TimedState
-line_after ws w Malformed = w
-line_after ws w (Good e) = after_call w (call_of ws e)
+abbrev pub line_after : List Window → TimedState → Option Event → TimedState
+line_after ws w None = w
+line_after ws w (Some e) = after_call w (call_of ws e)
 
 -- behind the last byte 10: nothing, or a line without it, refused as 2
 abbrev pub last_report : ℕ → List ℕ → List ℕ
@@ -96,11 +94,11 @@ left_area D ws o area ls = cond (day_fits D ws o) (finished D ws o area ls).area
 
 -- what is printed under the first head: where a line before the events is refused, its refusal alone
 abbrev pub body : ℕ → List Window → List ℕ → Reading Opening → List ℕ
-body D ws area (refused n a) = refusal_line n a
+body D ws area (refused n r) = refusal_line n (Err r)
 body D ws area (got o ls) = listed D ws o area ls
 
 abbrev pub body_area : ℕ → List Window → List ℕ → Reading Opening → List ℕ
-body_area D ws area (refused n a) = area
+body_area D ws area (refused n r) = area
 body_area D ws area (got o ls) = left_area D ws o area ls
 
 -- a packet area that is too short, or a script that is too long: refused as 15 with line 0, before anything else

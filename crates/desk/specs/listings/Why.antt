@@ -1,10 +1,10 @@
 -- The reasons of every close of a script (specification, 8.1 The reasons), with a day of D epochs and a list of windows as in Output.
 -- Assumes nothing.
-use Rattle.std.specs.Prelude.{cond, List, [], ◌∷◌, ◌++◌, ℕ, zero, suc, min, ◌+◌, ◌*◌}
+use Rattle.std.specs.Prelude.{cond, Err, List, [], ◌∷◌, ◌++◌, ℕ, zero, suc, min, ◌+◌, ◌*◌}
 use Rattle.text.specs.Ascii.{ascii}
 use Rattle.text.specs.Read.{split}
-use Rattle.node.specs.declared.Answer.{Answer}
-use Rattle.node.specs.declared.Answer.TheVariants.{NoRoom, BadWindows}
+use Rattle.node.specs.Answers.{Answer}
+use Rattle.node.specs.Answers.{NoRoom, BadWindows}
 use Rattle.windows.specs.declared.Window.{Window}
 use Rattle.machine.specs.timed.Calls.{TimedState}
 use Rattle.script.specs.events.Events.{event_of}
@@ -38,7 +38,7 @@ head_part (suc i) = []
 
 -- a list or a day that breaks the rules is refused as 16 with line 0, before the first event
 abbrev pub why_body : ℕ → ℕ → List Window → ℕ → List ℕ → Reading Opening → List ℕ
-why_body j D ws split area (refused n a) = refusal_part j split n a
+why_body j D ws split area (refused n r) = refusal_part j split n (Err r)
 why_body j D ws split area (got o ls) =
     cond (day_fits D ws o) (head_part j ++ reason_lines j ws (loaded_state D ws o area) (5 + o.config.nodes) ls)
     (refusal_part j split 0 BadWindows)

@@ -27,7 +27,7 @@ use Rattle.node.specs.Distribution.{sent_by, taken_epoch, taken_node, take_answe
 use Rattle.node.specs.Begin.{begun, waiting, start_answer}
 use Rattle.node.specs.End.{next_round, waits_on, next_epoch, ended_node, end_answer}
 use Rattle.membership.specs.counters.Counters.{with_self, members_of}
-use Rattle.node.specs.declared.Answer.TheVariants.{Done}
+use Rattle.node.specs.Answers.{Done}
 use Rattle.wire.specs.Layout.{packet_bytes, packet_in}
 use Rattle.wire.specs.Reads.{packet_ok, packet_answer}
 use Rattle.site.specs.Members.{nobody, member_at, is_live}

@@ -1,9 +1,9 @@
 -- Histories in which a site recovers, computed by the definitions.
 -- Assumes nothing.
-use mathlib.Core.Path.{◌≡◌, refl, sym, ◌∙◌}
+use mathlib.Core.Path.{◌≡◌, refl, sym, ap, ◌∙◌}
 use mathlib.Core.Bool.{true}
 use mathlib.Core.Logic.{inl, inr}
-use mathlib.Core.List.{[], ◌∷◌}
+use mathlib.Core.List.{List, [], ◌∷◌}
 use Prim.Native.Nat.{ℕ, zero, suc, ◌<◌}
 use native.Mathlib.Omega.{arith}
 use borrow.Author.Tests.{eqb-true, ltb-true}
@@ -22,17 +22,22 @@ use Rattle.node.specs.Distribution.{sent_by, taken_epoch, taken_node, take_answe
 use Rattle.node.specs.Begin.{begun, waiting, start_answer}
 use Rattle.node.specs.End.{next_round, waits_on, next_epoch, ended_node, end_answer}
 use Rattle.membership.specs.counters.Counters.{with_self, members_of}
-use Rattle.node.specs.declared.Answer.TheVariants.{Done}
+use Rattle.node.specs.Answers.{Done, is_done}
 use Rattle.wire.specs.Layout.{packet_bytes, packet_in}
 use Rattle.wire.specs.Reads.{packet_ok, packet_answer}
 use Rattle.site.specs.Load.{load_answer, loaded_site, loaded_member, table_ok, row_ok}
 use Rattle.site.specs.Answers.{site_send, answer_part, site_hear, site_close, site_take, site_end, site_want, site_crash, site_restart, answer_of}
 use Rattle.site.specs.Steps.{sent_site, sent_area, heard_site, closed_site, taken_site, ended_site, wanted_site, crashed_site, restarted_site}
 use Rattle.site.specs.Steps.{site_after, area_after}
-use Rattle.site.specs.Run.{run}
+use Rattle.site.specs.Run.{RunState, after, run}
+use Rattle.node.specs.declared.Config.{Config}
+use Rattle.site.specs.declared.Table.{Table}
+use Rattle.site.specs.declared.Event.{Event}
 use Rattle.site.specs.declared.Event.TheVariants.{End}
-use Rattle.histories.specs.Past.{determined_at, past_after, trace}
-use Rattle.histories.specs.Reached.{reached, past_of}
+use Rattle.words.proofs.Tests.{hit}
+use Rattle.histories.specs.Past.{Past, no_past, determined_at, past_after, trace}
+use Rattle.histories.specs.Reached.{begin, reached, past_of}
+use Rattle.agreement.proofs.daily.Wants.{run-append, trace-append}
 use Rattle.node.specs.Begin.{restart_answer}
 use Rattle.node.specs.Steps.{wanted_node}
 use Rattle.recovery.specs.Calm.{site_member, live_in, live_set, unwatched, all_heard, watch_after, watched, epoch_end, whole}
@@ -41,9 +46,23 @@ use Rattle.examples.specs.cases.Recoveries.{moment, past_then, strict, two_round
 use Rattle.examples.specs.cases.Recoveries.{Recoveries}
 use Rattle.examples.proofs.cases.Tests.{each_live, each_live_lem, is_ready, ready_by, is_calm, calm-by}
 
+-- an accepted end leaves the site with which the next round starts, and so does a list with such an end
+last-end : (past : Past) (w : RunState) → is_done (answer_of w.site w.area End) ≡ true → (past_after past w End).start ≡ (after w End).site
+unfolding past_after
+last-end past w h = ap (λ (p : Past). p.start) (hit _ _ past h)
+
+start-whole : (f : Config) (t : Table) (l : List ℕ) (body : List Event)
+    → is_done (answer_of (reached f t l body).site (reached f t l body).area End) ≡ true
+    → (past_of f t l (whole body)).start ≡ (reached f t l (whole body)).site
+unfolding run trace
+start-whole f t l body h =
+    let w = begin f t l in
+    let p = no_past (loaded_site f t) in
+    ap (λ (x : Past). x.start) (trace-append p w body (End ∷ [])) ∙ last-end (trace p w body) (run w body) h
+    ∙ sym (ap (λ (x : RunState). x.site) (run-append w body (End ∷ [])))
+
 -- the tests, computed
-again-ready : ((past_then trio (whole calm_body)).start ≡ (moment trio (whole calm_body)).site)
-    × (is_ready (moment trio (whole calm_body)).site 2 ≡ true) × (size (live_set (moment trio (whole calm_body)).site) ≡ 3)
+again-ends : is_done (answer_of (moment trio calm_body).site (moment trio calm_body).area End) ≡ true
 unfolding trace run past_after determined_at site_after area_after answer_of site_send answer_part site_hear site_close site_take site_end site_want
     site_crash site_restart sent_site sent_area heard_site closed_site taken_site ended_site wanted_site crashed_site
     restarted_site loaded_site loaded_member live_set all_heard watch_after watched begun waiting opened packet_of merges noted joined interacted
@@ -52,7 +71,32 @@ unfolding trace run past_after determined_at site_after area_after answer_of sit
     packet_in packet_ok packet_answer requesters union agree requests_within word_of ones ones_in iter tab
     same all_below asks deal_one deal_round dealt keep_one kept better chosen fill_one filled next total owners_of schedule_of start_answer
     restart_answer config_ok flags_ok wanted_node
-again-ready = (refl, refl, refl)
+again-ends = refl
+
+again-start : (past_then trio (whole calm_body)).start ≡ (moment trio (whole calm_body)).site
+again-start = start-whole trio (all_at 1) area calm_body again-ends
+
+again-ready : is_ready (moment trio (whole calm_body)).site 2 ≡ true
+unfolding trace run past_after determined_at site_after area_after answer_of site_send answer_part site_hear site_close site_take site_end site_want
+    site_crash site_restart sent_site sent_area heard_site closed_site taken_site ended_site wanted_site crashed_site
+    restarted_site loaded_site loaded_member live_set all_heard watch_after watched begun waiting opened packet_of merges noted joined interacted
+    heard_node send_answer hear_answer complete level verdict counted due raised stayed closed_node
+    close_answer sent_by taken_epoch taken_node take_answer with_self next_round waits_on members_of next_epoch ended_node end_answer packet_bytes
+    packet_in packet_ok packet_answer requesters union agree requests_within word_of ones ones_in iter tab
+    same all_below asks deal_one deal_round dealt keep_one kept better chosen fill_one filled next total owners_of schedule_of start_answer
+    restart_answer config_ok flags_ok wanted_node
+again-ready = refl
+
+again-live : size (live_set (moment trio (whole calm_body)).site) ≡ 3
+unfolding trace run past_after determined_at site_after area_after answer_of site_send answer_part site_hear site_close site_take site_end site_want
+    site_crash site_restart sent_site sent_area heard_site closed_site taken_site ended_site wanted_site crashed_site
+    restarted_site loaded_site loaded_member live_set all_heard watch_after watched begun waiting opened packet_of merges noted joined interacted
+    heard_node send_answer hear_answer complete level verdict counted due raised stayed closed_node
+    close_answer sent_by taken_epoch taken_node take_answer with_self next_round waits_on members_of next_epoch ended_node end_answer packet_bytes
+    packet_in packet_ok packet_answer requesters union agree requests_within word_of ones ones_in iter tab
+    same all_below asks deal_one deal_round dealt keep_one kept better chosen fill_one filled next total owners_of schedule_of start_answer
+    restart_answer config_ok flags_ok wanted_node
+again-live = refl
 
 again-calm : is_calm (live_set (moment trio (whole calm_body)).site) (moment trio (whole calm_body)) calm_body ≡ true
 unfolding trace run past_after determined_at site_after area_after answer_of site_send answer_part site_hear site_close site_take site_end site_want
@@ -189,8 +233,8 @@ one-schedule i j li lj =
 pub recoveries : Recoveries
 recoveries =
     record {
-      ready-again = ready_by (past_then trio (whole calm_body)) (moment trio (whole calm_body)).site 2 again-ready.0
-          (inl (split-nodes.0, omega (arith, split-nodes.1, again-ready.2))) again-ready.1 (omega arith);
+      ready-again = ready_by (past_then trio (whole calm_body)) (moment trio (whole calm_body)).site 2 again-start
+          (inl (split-nodes.0, omega (arith, split-nodes.1, again-live))) again-ready (omega arith);
       calm-again = calm-by _ (moment trio (whole calm_body)) calm_body again-calm;
       same_asked = record { live = asked.0; requests = λ i l. eqb-true _ _ (each_live_lem (moment trio []).site _ asked.1 i l) };
       strict-loads = strict-start.0;

@@ -23,7 +23,7 @@ use Rattle.node.specs.Close.{complete, level, verdict, due, raised, stayed, clos
 use Rattle.node.specs.Distribution.{sent_by, taken_epoch, taken_node, take_answer}
 use Rattle.node.specs.Begin.{begun, waiting, start_answer}
 use Rattle.node.specs.End.{next_round, waits_on, next_epoch, ended_node, end_answer}
-use Rattle.node.specs.declared.Answer.TheVariants.{Done}
+use Rattle.node.specs.Answers.{Done}
 use Rattle.wire.specs.Layout.{packet_bytes, packet_in}
 use Rattle.wire.specs.Reads.{packet_ok, packet_answer}
 use Rattle.area.specs.Area.{node_size}

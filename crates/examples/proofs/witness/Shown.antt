@@ -10,7 +10,7 @@ use Rattle.words.proofs.Tests.{read-choice}
 use Rattle.node.specs.Answers.{is_done}
 use Rattle.node.specs.Close.{determines}
 use Rattle.node.specs.Model.{Node}
-use Rattle.node.specs.declared.Answer.{Answer}
+use Rattle.node.specs.Answers.{Answer}
 use Rattle.area.specs.Area.{decoded}
 use Rattle.area.proofs.Canon.{round_trip}
 use Rattle.site.specs.Members.{member_at, is_live}

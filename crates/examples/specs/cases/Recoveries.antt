@@ -3,7 +3,7 @@
 -- Assumes nothing.
 use Rattle.std.specs.Prelude.{◌≡◌, List, [], ◌∷◌, ◌++◌, map, ℕ, ◌≤◌, take}
 use Rattle.allotment.specs.Allotment.{owners_of}
-use Rattle.node.specs.declared.Answer.TheVariants.{Done}
+use Rattle.node.specs.Answers.{Done}
 use Rattle.site.specs.Load.{load_answer}
 use Rattle.site.specs.Members.{member_at}
 use Rattle.site.specs.Run.{RunState}

@@ -4,8 +4,8 @@
 use Rattle.std.specs.Prelude.{Bool, not, cond, ◌&&◌, List, ℕ, ltb, leb}
 use Rattle.node.specs.Answers.{is_done}
 use Rattle.node.specs.Figures.{top_nodes}
-use Rattle.node.specs.declared.Answer.{Answer}
-use Rattle.node.specs.declared.Answer.TheVariants.{Done, OutOfRange, NoSuchNode, BadWindows}
+use Rattle.node.specs.Answers.{Answer}
+use Rattle.node.specs.Answers.{Done, OutOfRange, NoSuchNode, BadWindows}
 use Rattle.windows.specs.Windows.{list_ok, due_at}
 use Rattle.windows.specs.declared.Window.{Window}
 

@@ -18,7 +18,7 @@ use Rattle.site.specs.Model.{Member}
 use Rattle.machine.specs.Layout.{Store, site_in, words_size, bytes_size}
 use Rattle.machine.specs.Loading.{member_read, slots_read}
 use Rattle.machine.proofs.Whole.{as_member}
-use Rattle.tally.specs.Claims.{gives_slot, held_by}
+use Rattle.tally.specs.Claims.{held_by}
 use Rattle.tally.specs.Ends.{own_schedule, schedules_of}
 
 -- the slots of node j by the schedule of a member

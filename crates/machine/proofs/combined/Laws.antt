@@ -7,9 +7,7 @@ use Prim.Native.Nat.{ℕ, ◌≤◌}
 use lib.Dec.{ltb}
 use lib.ListN.{length}
 use Rattle.words.proofs.Tests.{never, hit, skip, or-neither}
-use Rattle.node.specs.Answers.{number, is_done}
-use Rattle.node.specs.declared.Answer.{Answer}
-use Rattle.node.specs.declared.Answer.TheVariants.{Done, NotANode, NoRoom, BadWindows}
+use Rattle.node.specs.Answers.{Answer, Done, NotANode, NoRoom, BadWindows, is_done}
 use Rattle.node.proofs.Answers.{done-is}
 use Rattle.site.specs.Answers.{area_size, answer_of}
 use Rattle.site.specs.Events.{is_end, is_close}
@@ -24,7 +22,6 @@ use Rattle.machine.specs.steps.After.{storage_answer}
 use Rattle.machine.specs.timed.Timed.{Timed, timed_answer, timed_after, next_timed}
 use Rattle.machine.specs.timed.Stored.{timed_in, stored_answer, timed_store}
 use Rattle.machine.specs.declared.Day.{Day}
-use Rattle.machine.specs.declared.DayAnswer.{DayAnswer}
 use Rattle.machine.proofs.timed.Laws.{end_is, end-area, plain-answer, refused-after, done-after}
 use Rattle.machine.proofs.timed.Stored.{TurnIs, as-timed}
 use Rattle.machine.specs.reports.Reports.{reported_in, put_report}
@@ -34,9 +31,12 @@ use Rattle.tally.specs.Ends.{tallied_answer, tally_at}
 use Rattle.tally.specs.declared.Tally.{Tally}
 use Rattle.machine.specs.combined.Kept.{Kept, first_refusal, list_fits, kept_answer, next_kept, kept_after}
 use Rattle.machine.specs.combined.Stored.{kept_in, report_too_short, lent_too_short, step_answer, step_accepted, step_store, step_report}
-use Rattle.machine.specs.combined.Stored.{step_kept, step_result}
-use Rattle.machine.specs.combined.Inner.{objection, tally_behind}
-use Rattle.machine.specs.declared.StepResult.{StepResult}
+use Rattle.machine.specs.combined.Stored.{step_kept}
+use Rattle.machine.specs.combined.Inner.{objection}
+
+-- the tally behind an event: an accepted end counts the site as it is then
+abbrev pub tally_behind : Site → Event → Answer → Tally → Tally
+tally_behind s e a t = cond (is_end e && is_done a) (tally_at s t) t
 
 -- two answers, where the first is done or not
 pub first_done : (x : Answer) → first_refusal x Done ≡ x
@@ -221,12 +221,12 @@ module _ (s : Store) (d : Day) (l : List ℕ) (ws : List Window) (t : Tally) (ou
   kept = kept_in s d l t
 
   -- what is said of an event
-  abbrev pub StepIs : StepResult → List ℕ → List ℕ → List ℕ → List ℕ → Type 0
-  StepIs r w b x o =
-      (r ≡ step_result s d l ws t out e)
+  abbrev pub StepIs : Answer → Day → Tally → List ℕ → List ℕ → List ℕ → List ℕ → Type 0
+  StepIs a n y w b x o =
+      (a ≡ step_answer s d l ws t out e)
       × ((w ≡ (step_store s d l ws t out e).words)
       × ((b ≡ (step_store s d l ws t out e).bytes)
-      × ((o ≡ step_report s d l ws t out e) × (kept_in (store w b) r.day x r.tally ≡ step_kept s d l ws t out e))))
+      × ((o ≡ step_report s d l ws t out e) × (kept_in (store w b) n x y ≡ step_kept s d l ws t out e))))
 
   -- a refusal changes nothing
   pub kept-refused : step_accepted s d l ws t out e ≡ false → step_kept s d l ws t out e ≡ kept
@@ -259,20 +259,29 @@ module _ (s : Store) (d : Day) (l : List ℕ) (ws : List Window) (t : Tally) (ou
       let a = kept-done h in
       ap (λ (k : Kept). k.timed) (skip _ _ _ _ a.0 (hit _ _ _ a.1)) ∙ sym (done-after (timed_in s d) l ws e (step-accepts h))
 
-  refused : {n : ℕ} → step_accepted s d l ws t out e ≡ false → n ≡ number (step_answer s d l ws t out e)
-      → StepIs (record { code = n; day = d; tally = t }) s.words s.bytes l out
+  refused : {a : Answer} → step_accepted s d l ws t out e ≡ false → a ≡ step_answer s d l ws t out e
+      → StepIs a d t s.words s.bytes l out
   unfolding step_report
-  refused {n} h m =
+  refused h m =
       let q = store-refused h in
       let g = kept-refused h in (
-        (λ i. record { code = m i; day = (sym g i).timed.day; tally = (sym g i).tally }),
+        m,
         (ap (λ (x : Store). x.words) (sym q), (ap (λ (x : Store). x.bytes) (sym q), (sym (skip _ _ _ _ h refl), sym g))),
       )
 
-  pub no_room : {n : ℕ} → lent_too_short s l out ≡ true → n ≡ number NoRoom
-      → StepIs (record { code = n; day = d; tally = t }) s.words s.bytes l out
+  pub no_room : lent_too_short s l out ≡ true → StepIs NoRoom d t s.words s.bytes l out
   unfolding step_answer
-  no_room h m = let a : step_answer s d l ws t out e ≡ NoRoom = hit _ _ _ h in refused (ap is_done a) (m ∙ ap number (sym a))
+  no_room h = let a : step_answer s d l ws t out e ≡ NoRoom = hit _ _ _ h in refused (ap is_done a) (sym a)
+
+  -- the tally behind an event that is refused, behind an accepted end, and behind what is no end
+  pub not-counted : (a : Answer) (v : Site) → is_done a ≡ false → t ≡ tally_behind v e a t
+  not-counted a v h = sym (skip _ _ _ _ (ap (λ (z : Bool). is_end e && z) h ∙ and-false (is_end e)) refl)
+
+  pub counted : (a : Answer) (v : Site) → is_done a ≡ true → is_end e ≡ true → tally_at v t ≡ tally_behind v e a t
+  counted a v h k = sym (hit _ _ _ (ap (λ (z : Bool). is_end e && z) h ∙ and-true (is_end e) ∙ k))
+
+  pub passed-by : (a : Answer) (v : Site) → is_end e ≡ false → t ≡ tally_behind v e a t
+  passed-by a v k = sym (skip _ _ _ _ (ap (λ (z : Bool). z && is_done a) k) refl)
 
   module _ (few : lent_too_short s l out ≡ false) where
     abbrev short : too_short s ≡ false
@@ -287,14 +296,13 @@ module _ (s : Store) (d : Day) (l : List ℕ) (ws : List Window) (t : Tally) (ou
     storage-is = skip _ _ _ _ short refl
 
     -- refused for its tally or its list, or for what comes before these
-    pub refuses : {o a : Answer} {n : ℕ} → o ≡ objection kept ws e → is_done o ≡ false → a ≡ storage_answer s l e → n
-        ≡ number (first_refusal a o)
-        → StepIs (record { code = n; day = d; tally = t }) s.words s.bytes l out
+    pub refuses : {o a r : Answer} → o ≡ objection kept ws e → is_done o ≡ false → a ≡ storage_answer s l e → r ≡ first_refusal a o
+        → StepIs r d t s.words s.bytes l out
     refuses {o} {a} p h q m =
         let z : first_refusal a o ≡ step_answer s d l ws t out e =
         ap (λ (x : Answer). first_refusal x o) (q ∙ storage-is) ∙ ap (first_refusal (answer_of (site_in s) l e)) p
         ∙ sym (answer-is ∙ objected kept ws e (ap is_done (sym p) ∙ h)) in
-        refused (ap is_done (sym z) ∙ first-refuses a o h) (m ∙ ap number z)
+        refused (ap is_done (sym z) ∙ first-refuses a o h) (m ∙ z)
 
     module _ (good : is_done (objection kept ws e) ≡ true) where
       abbrev timed : Answer
@@ -343,25 +351,18 @@ module _ (s : Store) (d : Day) (l : List ℕ) (ws : List Window) (t : Tally) (ou
       kept-is = skip _ _ _ _ few (after-timed kept ws e good)
 
       -- done as the event of the site with its day is
-      pub as-done : {a : Answer} {n : Day} {w b x o : List ℕ} {c : ℕ} {y : Tally} → TurnIs s d l ws e a n w b x → o ≡ put_report s l e out
-          → y ≡ tally_behind (site_in (store w b)) e a t → c ≡ number a
-          → StepIs (record { code = c; day = n; tally = y }) w b x o
-      as-done {a} {n} {w} {b} {x} {o} {c} {y} p q u m =
+      pub as-done : {a : Answer} {n : Day} {w b x o : List ℕ} {y : Tally} → TurnIs s d l ws e a n w b x → o ≡ put_report s l e out
+          → y ≡ tally_behind (site_in (store w b)) e a t → StepIs a n y w b x o
+      as-done {a} {n} {w} {b} {x} {o} {y} p q u =
           let z = as-timed s d l ws e (long-enough s short) in
-          let r = p.0 ∙ z.0 in
-          let answer : a ≡ timed = ap (λ (v : DayAnswer). v.answer) r in
-          let day : n ≡ (timed_after (timed_in s d) l ws e).day = ap (λ (v : DayAnswer). v.day) r in
+          let answer : a ≡ timed = p.0.0 ∙ z.0.0 in
+          let day : n ≡ (timed_after (timed_in s d) l ws e).day = p.0.1 ∙ z.0.1 in
           let site : site_in (store w b) ≡ (timed_after (timed_in s d) l ws e).site = p.1.1.1.0 ∙ z.1.0 in
           let area : x ≡ area_after (site_in s) l e = p.1.1.1.1 ∙ z.1.1 in
           let tally : y ≡ tally_behind (timed_after (timed_in s d) l ws e).site e timed t = u ∙ ap (λ (v : Site). tally_behind v e a t) site
           ∙ ap (λ (v : Answer). tally_behind (timed_after (timed_in s d) l ws e).site e v t) answer in
-          let code : c ≡ number (step_answer s d l ws t out e) = m ∙ ap number (answer ∙ sym is-timed) in
           let k = sym kept-is in (
-            (λ i. record {
-              code = code i;
-              day = (day ∙ ap (λ (v : Kept). v.timed.day) k) i;
-              tally = (tally ∙ ap (λ (v : Kept). v.tally) k) i;
-            }),
+            answer ∙ sym is-timed,
             (
               p.1.0 ∙ ap (λ (v : Store). v.words) store_is,
               (

@@ -8,19 +8,18 @@ use native.Mathlib.Omega.{arith}
 use borrow.Author.Tests.{lt-leb, le-leb}
 use lib.Dec.{leb}
 use lib.ListN.{length}
+use Rattle.std.specs.Prelude.{None}
 use Rattle.words.proofs.Tests.{never, and_right, hit, skip, both}
 use Rattle.lists.specs.Bytes.{written, Tried}
 use Rattle.lists.proofs.Laws.{length-tab}
-use Rattle.node.specs.Answers.{is_done}
-use Rattle.node.specs.declared.Answer.{Answer}
-use Rattle.node.specs.declared.Answer.TheVariants.{NoRoom}
+use Rattle.node.specs.Answers.{Answer, NoRoom, is_done}
 use Rattle.site.specs.Answers.{answer_of}
 use Rattle.site.specs.Events.{is_close}
 use Rattle.site.specs.declared.Event.{Event}
 use Rattle.machine.specs.Layout.{Store, too_short, site_in}
 use Rattle.machine.specs.steps.After.{storage_answer}
 use Rattle.machine.specs.Loading.{member_read}
-use Rattle.machine.specs.reports.Reports.{no_node_report, member_report, report_of, closes_with, reported_in, node_report_in, reports_size}
+use Rattle.machine.specs.reports.Reports.{member_report, report_of, closes_with, reported_in, node_report_in, reports_size}
 use Rattle.machine.specs.reports.Reports.{report_bytes}
 use Rattle.machine.specs.reports.Reports.{put_report}
 use Rattle.machine.specs.declared.Report.{Report}
@@ -33,7 +32,7 @@ pub a-close : (e : Event) (a : Answer) → is_close e ≡ true → is_done a ≡
 a-close e a h = sym (ap (λ (t : Bool). t && is_done a) h)
 
 -- nobody reports
-pub none_told : (s : Store) (l : List ℕ) (e : Event) (j : ℕ) → reported_in s l e ≡ false → no_node_report ≡ node_report_in s l e j
+pub none_told : (s : Store) (l : List ℕ) (e : Event) (j : ℕ) → reported_in s l e ≡ false → None ≡ node_report_in s l e j
 unfolding node_report_in member_report
 none_told s l e j h = sym (ap (λ (t : Bool). member_report t (member_read s j)) h)
 

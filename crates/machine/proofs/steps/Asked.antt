@@ -6,11 +6,9 @@ use mathlib.Core.List.{List}
 use Prim.Native.Nat.{ℕ, ◌-◌, ◌≤◌}
 use lib.ListN.{length}
 use Rattle.words.proofs.Tests.{hit, skip}
-use Rattle.node.specs.Answers.{is_done}
+use Rattle.node.specs.Answers.{Answer, Done, NoSuchNode, WrongPhase, NotLive, TooManyPackets, NoSuchPacket, is_done}
 use Rattle.node.specs.Figures.{is_waiting}
 use Rattle.node.specs.Negotiation.{send_answer, hear_answer}
-use Rattle.node.specs.declared.Answer.{Answer}
-use Rattle.node.specs.declared.Answer.TheVariants.{Done, NoSuchNode, WrongPhase, NotLive, TooManyPackets, NoSuchPacket}
 use Rattle.node.specs.declared.Packet.{Packet}
 use Rattle.node.specs.declared.Phase.{Phase}
 use Rattle.node.proofs.Answers.{done-is, test-passed}

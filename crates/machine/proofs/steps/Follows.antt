@@ -6,9 +6,7 @@ use mathlib.Core.List.{List}
 use Prim.Native.Nat.{ℕ, ◌≤◌}
 use lib.ListN.{length}
 use Rattle.words.proofs.Tests.{hit, skip}
-use Rattle.node.specs.Answers.{is_done}
-use Rattle.node.specs.declared.Answer.{Answer}
-use Rattle.node.specs.declared.Answer.TheVariants.{Done}
+use Rattle.node.specs.Answers.{Answer, Done, is_done}
 use Rattle.node.proofs.Answers.{done-is}
 use Rattle.site.specs.Answers.{event_answer, answer_of}
 use Rattle.site.specs.Steps.{next_site, site_after}

@@ -3,24 +3,24 @@
 use mathlib.Core.Path.{◌≡◌, refl, sym, ap, ◌∙◌}
 use mathlib.Core.Bool.{Bool, true, false, cond}
 use mathlib.Core.List.{List}
-use Prim.Native.Nat.{ℕ, ◌≤◌, ◌<◌}
+use Prim.Native.Nat.{ℕ, ◌-◌, ◌≤◌, ◌<◌}
 use borrow.Author.Tests.{lt-ltb, le-ltb}
 use lib.Dec.{ltb}
 use lib.ListN.{length}
 use Rattle.words.proofs.Tests.{hit, skip, never}
-use Rattle.node.specs.Answers.{is_done}
-use Rattle.node.specs.declared.Answer.{Answer}
-use Rattle.node.specs.declared.Answer.TheVariants.{Done, NoRoom}
+use Rattle.node.specs.Answers.{Answer, Done, NoRoom, is_done}
 use Rattle.node.proofs.Answers.{done-is, test-passed}
 use Rattle.site.specs.Answers.{area_size, event_answer, answer_of}
 use Rattle.node.specs.Negotiation.{packet_of}
 use Rattle.site.specs.Members.{member_at}
 use Rattle.site.specs.Steps.{stored, next_area, site_after, area_after}
 use Rattle.site.specs.declared.Event.{Event}
-use Rattle.site.specs.declared.Event.TheVariants.{Send}
+use Rattle.site.specs.declared.Event.TheVariants.{Send, Hear}
 use Rattle.site.proofs.Accepted.{answered}
 use Rattle.machine.specs.Layout.{Store, words_size, bytes_size, too_short, store, site_in}
-use Rattle.machine.proofs.Whole.{enough}
+use Rattle.wire.specs.Reads.{part_of}
+use Rattle.machine.proofs.steps.Asked.{heard-there}
+use Rattle.machine.proofs.Whole.{enough, long-enough}
 use Rattle.machine.specs.steps.After.{sent_store, heard_part, next_store, storage_answer, store_after, site_with, area_with, site_heard}
 use Rattle.machine.specs.steps.After.{part_answer, part_store, area_into}
 use Rattle.machine.proofs.steps.Follows.{follows}
@@ -94,6 +94,14 @@ module _ (s : Store) (l : List ℕ) (e : Event) where
       go true h = never (sym d ∙ ap is_done (hit _ _ _ h))
       go false h = (h, (answered (site_in s) l e (sym (skip _ _ _ _ h refl) ∙ done-is _ d)).1)
 
+-- an accepted event tells that the storage is long enough
+pub told-long : (s : Store) (l : List ℕ) (e : Event) → storage_answer s l e ≡ Done
+    → (words_size ≤ length s.words) × ((bytes_size ≤ length s.bytes) × (event_answer (site_in s) l e ≡ Done))
+told-long s l e h =
+    let q = told s l e (ap is_done h) in
+    let k = long-enough s q.0 in
+    (k.0, (k.1, q.1))
+
 -- of storage that is long enough, all is as the site has it
 pub as-site : (s : Store) (l : List ℕ) (e : Event) → words_size ≤ length s.words → bytes_size ≤ length s.bytes
     → (storage_answer s l e ≡ answer_of (site_in s) l e)
@@ -148,3 +156,17 @@ module _ (s : Store) (part : List ℕ) (j p : ℕ) where
   pub done-part : {a : Answer} {w b : List ℕ} → a ≡ part_answer s part j p → is_done a ≡ true → w ≡ (heard_part s part j).words → b
       ≡ (heard_part s part j).bytes → Heard a w b
   done-part e d u v = heard-by true e d u v
+
+pub part-long : (s : Store) (part : List ℕ) (j p : ℕ) → part_answer s part j p ≡ Done
+    → (words_size ≤ length s.words) × ((bytes_size ≤ length s.bytes) × (site_heard (site_in s) part j p ≡ Done))
+part-long s part j p h =
+    let q = part-told s part j p (ap is_done h) in
+    let k = long-enough s q.0 in
+    (k.0, (k.1, q.1))
+
+-- a hear of packet p of the area is one of its part
+pub in-part : (s : Store) (area : List ℕ) (j p : ℕ) → storage_answer s area (Hear j p) ≡ Done → part_answer s (part_of area (p - 1)) j p ≡ Done
+unfolding part_answer
+in-part s area j p h =
+    let q = told s area (Hear j p) (ap is_done h) in
+    skip _ _ _ _ q.0 (heard-there (site_in s) area j p ∙ q.1)

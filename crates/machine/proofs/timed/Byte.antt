@@ -13,9 +13,7 @@ use Rattle.words.proofs.Tests.{hit, skip, both, read_same, read-choice}
 use Rattle.lists.specs.All.{iter}
 use Rattle.lists.proofs.Laws.{iter-inv}
 use Rattle.allotment.specs.Allotment.{top_request}
-use Rattle.node.specs.Answers.{is_done}
-use Rattle.node.specs.declared.Answer.{Answer}
-use Rattle.node.specs.declared.Answer.TheVariants.{Done, OutOfRange, NoSuchNode, NotLive, NoRoom}
+use Rattle.node.specs.Answers.{Answer, Done, OutOfRange, NoSuchNode, NotLive, NoRoom, is_done}
 use Rattle.node.specs.declared.Config.{Config}
 use Rattle.site.specs.Answers.{area_size, site_want, answer_of}
 use Rattle.site.specs.Members.{member_at, outside}

@@ -7,15 +7,14 @@ use mathlib.Core.List.{List}
 use Prim.Native.Nat.{ℕ, suc, ◌+◌, ◌-◌, ◌≤◌, ◌<◌}
 use native.Mathlib.Omega.{arith}
 use borrow.Author.Tests.{lt-ltb, le-ltb, le-leb, ltb-true, ltb-false}
-use lib.Dec.{ltb, leb}
+use lib.Dec.{ltb}
 use lib.ListN.{length, get_or, set}
 use lib.Seq.{ext_get_or, set-get_or}
 use Rattle.words.proofs.Tests.{hit, skip, same_or_not, both, read_same, by-test}
 use Rattle.lists.specs.All.{tab}
 use Rattle.lists.proofs.Laws.{length-tab, get_d-tab, tab-ext}
 use Rattle.allotment.specs.Allotment.{top_request}
-use Rattle.node.specs.Answers.{is_done}
-use Rattle.node.specs.declared.Answer.TheVariants.{Done, NotLive}
+use Rattle.node.specs.Answers.{Done, NotLive, is_done}
 use Rattle.site.specs.Members.{nobody, with_node, member_at, outside}
 use Rattle.site.specs.Answers.{area_size, site_want, answer_of}
 use Rattle.site.specs.Steps.{wanted_member, wanted_site, site_after, area_after}

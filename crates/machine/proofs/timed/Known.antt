@@ -5,9 +5,7 @@ use mathlib.Core.Bool.{Bool, true, false, cond, ◌&&◌}
 use mathlib.Core.List.{List}
 use Prim.Native.Nat.{ℕ}
 use Rattle.words.proofs.Tests.{never, hit, skip, read_same}
-use Rattle.node.specs.Answers.{is_done}
-use Rattle.node.specs.declared.Answer.{Answer}
-use Rattle.node.specs.declared.Answer.TheVariants.{Done, NoRoom, BadWindows}
+use Rattle.node.specs.Answers.{Answer, Done, NoRoom, BadWindows, is_done}
 use Rattle.site.specs.Answers.{answer_of}
 use Rattle.site.specs.Members.{header_of}
 use Rattle.site.specs.Events.{is_end}
@@ -20,8 +18,7 @@ use Rattle.machine.specs.Layout.{Store, store, too_short, site_in}
 use Rattle.machine.specs.Loading.{header_read}
 use Rattle.machine.specs.steps.After.{next_store, storage_answer, store_after, area_with}
 use Rattle.machine.specs.timed.Timed.{Timed, answer_by, in_last_round, next_day, timed_answer, next_timed, timed_after}
-use Rattle.machine.specs.timed.Stored.{timed_in, stored_answer, stored_day, day_answer, begun_store, timed_store, answered_by, day_by}
-use Rattle.machine.specs.timed.Stored.{day_answer_by, store_by}
+use Rattle.machine.specs.timed.Stored.{timed_in, stored_answer, stored_day, begun_store, timed_store, answered_by, day_by, store_by}
 use Rattle.machine.specs.timed.Inner.{day_begun, list_verdict}
 use Rattle.machine.specs.declared.Day.{Day}
 use Rattle.machine.proofs.Whole.{as-header, long-enough}
@@ -31,7 +28,7 @@ module _ (ok : Bool) (s : Store) (d : Day) (l : List ℕ) (ws : List Window) whe
   -- answer, day, words, bytes and area, each as its definition has it
   abbrev pub TestedIs : Event → Answer → Day → List ℕ → List ℕ → List ℕ → Type 0
   TestedIs e a n w b x =
-      (record { answer = a; day = n } ≡ day_answer_by ok s d l e)
+      ((a ≡ answered_by ok s l e) × (n ≡ day_by ok s d l e))
       × ((w ≡ (store_by ok s d l ws e).words) × ((b ≡ (store_by ok s d l ws e).bytes) × (x ≡ area_with s l e)))
 
   -- what is no end is the event of the storage
@@ -60,7 +57,7 @@ module _ (ok : Bool) (s : Store) (d : Day) (l : List ℕ) (ws : List Window) whe
       sym (read_same (λ (x : Day). x) (is_done (answered_by ok s l e)) (next_day (timed_in s d) e) d d
       (skip (is_end e && in_last_round (site_in s)) _ d d (ap (λ (b : Bool). b && in_last_round (site_in s)) h) refl) refl) in
       let z = sym (plain-store e h) in (
-        (λ i. record { answer = (f ∙ sym (plain-answered e h)) i; day = n i }),
+        (f ∙ sym (plain-answered e h), n),
         (p ∙ ap (λ (x : Store). x.words) z, (q ∙ ap (λ (x : Store). x.bytes) z, m)),
       )
 
@@ -71,7 +68,7 @@ module _ (ok : Bool) (s : Store) (d : Day) (l : List ℕ) (ws : List Window) whe
       let g = ap is_done h ∙ k in
       let q : s ≡ store_by ok s d l ws End = sym (skip _ _ _ _ g refl) in
       let n : d ≡ day_by ok s d l End = sym (skip _ _ _ _ g refl) in (
-        (λ i. record { answer = sym h i; day = n i }),
+        (sym h, n),
         (ap (λ (x : Store). x.words) q, (ap (λ (x : Store). x.bytes) q, sym (end_with s l))),
       )
 
@@ -119,7 +116,7 @@ module _ (ok : Bool) (s : Store) (d : Day) (l : List ℕ) (ws : List Window) whe
         let a : answered_by ok s l End ≡ Done = accepted ∙ hit _ _ _ f in
         let u : store_after g l End ≡ store_by ok s d l ws End = ap (λ (i : Store). store_after i l End) q ∙ sym (hit _ _ _ (ap is_done a)) in
         let e : n ≡ day_by ok s d l End = m ∙ sym (hit _ _ _ (ap is_done a)) in (
-          (λ i. record { answer = sym a i; day = e i }),
+          (sym a, e),
           (y ∙ ap (λ (i : Store). i.words) u, (r ∙ ap (λ (i : Store). i.bytes) u, v ∙ end_with g l ∙ sym (end_with s l))),
         )
 
@@ -169,9 +166,6 @@ module _ (s : Store) (d : Day) (l : List ℕ) (ws : List Window) (e : Event) {ok
       go false k = skip _ _ _ _ k (told (is_done (timed_answer t l ws e)) k refl)
           ∙ ap (λ (a : Answer). cond (is_done a) (next_day t e) d) by_answer
 
-  pub turned_by : day_answer s d l ws e ≡ day_answer_by ok s d l e
-  turned_by = λ i. record { answer = by_answer i; day = by-day i }
-
   pub store_by_lem : timed_store s d l ws e ≡ store_by ok s d l ws e
   unfolding timed_store store_by
   store_by_lem = ap (λ (a : Answer). cond (is_done a) (store_after (begun_store s d l ws e) l e) s) by_answer
@@ -182,7 +176,7 @@ module _ (s : Store) (d : Day) (l : List ℕ) (ws : List Window) (e : Event) {ok
       let z = sym store_by_lem in
       let u : store w b ≡ timed_store s d l ws e =
       (λ i. record { words = r.1.0 i; bytes = r.1.1.0 i }) ∙ z in (
-        r.0 ∙ sym turned_by,
+        (r.0.0 ∙ sym by_answer, r.0.1 ∙ sym by-day),
         (
           r.1.0 ∙ ap (λ (y : Store). y.words) z,
           (r.1.1.0 ∙ ap (λ (y : Store). y.bytes) z, (ap site_in u ∙ timed-site s d l ws e, r.1.1.1)),

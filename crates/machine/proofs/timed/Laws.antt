@@ -11,9 +11,8 @@ use lib.Seq.{ext_get_or}
 use Rattle.words.proofs.Tests.{never, hit, skip, read_same}
 use Rattle.lists.specs.All.{tab}
 use Rattle.lists.proofs.Laws.{length-tab, get_d-tab}
-use Rattle.node.specs.Answers.{is_done}
+use Rattle.node.specs.Answers.{Done, WrongPhase, NoRoom, BadWindows, is_done}
 use Rattle.node.specs.Steps.{wanted_node}
-use Rattle.node.specs.declared.Answer.TheVariants.{Done, WrongPhase, NoRoom, BadWindows}
 use Rattle.node.specs.Model.{Node}
 use Rattle.site.specs.Members.{nobody, with_node}
 use Rattle.site.specs.Load.{load_answer, loaded_site}

@@ -4,7 +4,7 @@
 use mathlib.Core.Path.{◌≡◌, refl, sym, ap, ap₂, ◌∙◌, subst}
 use mathlib.Core.Bool.{Bool, true, false, cond, ◌&&◌}
 use mathlib.Core.List.{List}
-use Prim.Native.Nat.{ℕ, suc, ◌+◌, ◌-◌, ◌≤◌, ◌<◌}
+use Prim.Native.Nat.{ℕ, suc, ◌+◌, ◌≤◌, ◌<◌}
 use native.Mathlib.Omega.{arith}
 use borrow.Author.Tests.{le-ltb, eqb-true, ltb-true, ltb-false}
 use lib.Dec.{eqb, ltb}
@@ -12,9 +12,10 @@ use lib.ListN.{length, get_or}
 use Rattle.words.proofs.Tests.{never, hit, skip, read_same, by-test}
 use Rattle.lists.specs.All.{iter}
 use Rattle.lists.proofs.Laws.{length-tab, get_d-tab, iter-inv}
-use Rattle.node.specs.Answers.{is_done}
-use Rattle.node.specs.declared.Answer.{Answer}
-use Rattle.node.specs.declared.Answer.TheVariants.{Done, NoRoom, BadWindows}
+use Rattle.std.specs.Prelude.{Result, Ok, Err}
+use Rattle.node.specs.Answers.{Answer, Done, NoRoom, BadWindows, is_done, answered}
+use Rattle.node.specs.declared.Refusal.{Refusal}
+use Rattle.node.specs.declared.Refusal.TheVariants as refusal
 use Rattle.site.specs.Members.{nobody, member_at}
 use Rattle.site.specs.Load.{load_answer, loaded_site}
 use Rattle.site.specs.Answers.{area_size}
@@ -38,7 +39,7 @@ use Rattle.machine.proofs.steps.Follows.{follows, want-long}
 use Rattle.machine.specs.timed.Timed.{Timed, first_epoch, epoch_after, given_site, given_table, timed_load_answer, loaded_timed, in_last_round}
 use Rattle.machine.specs.timed.Timed.{timed_answer, given_before, next_timed, timed_after}
 use Rattle.machine.specs.timed.Stored.{timed_in, stored_load_answer, stored_load, timed_loaded_store, timed_loaded_site, given_at, given_store}
-use Rattle.machine.specs.timed.Stored.{stored_answer, stored_day, day_answer, begun_store, timed_store, timed_site}
+use Rattle.machine.specs.timed.Stored.{stored_answer, stored_day, begun_store, timed_store, timed_site}
 use Rattle.machine.specs.declared.Day.{Day}
 use Rattle.machine.proofs.timed.Laws.{given-none, loaded-site, end-area, end-room, end-phase, end-windows, refused-after, done-after}
 use Rattle.machine.proofs.timed.Laws.{plain-answer, plain-after, end_is}
@@ -106,39 +107,43 @@ module _ (ws : List Window) (e D : ℕ) (l : List ℕ) (room : area_size ≤ len
 
 -- a load: answer, words and bytes, each as its definition has it
 module _ (s : Store) (f : Config) (t : Table) (D : ℕ) (ws : List Window) where
-  abbrev pub LoadIs : Answer → List ℕ → List ℕ → Type 0
-  LoadIs a w b =
-      (record { answer = a; day = first_epoch D } ≡ stored_load s f t D ws)
+  abbrev pub LoadIs : Result Day Refusal → List ℕ → List ℕ → Type 0
+  LoadIs r w b =
+      (r ≡ stored_load s f t D ws)
       × ((w ≡ (timed_loaded_store s f t D ws).words)
       × ((b ≡ (timed_loaded_store s f t D ws).bytes) × (site_in (store w b) ≡ timed_loaded_site s f t D ws)))
 
-  refused-load : (a : Answer) → stored_load_answer s f t D ws ≡ a → is_done a ≡ false → LoadIs a s.words s.bytes
+  refused-load : (x : Refusal) → stored_load_answer s f t D ws ≡ Err x → LoadIs (Err x) s.words s.bytes
   unfolding timed_loaded_store timed_loaded_site
-  refused-load a h k =
-      let g = ap is_done h ∙ k in
+  refused-load x h =
+      let g : is_done (stored_load_answer s f t D ws) ≡ false = ap is_done h in
       let q : s ≡ timed_loaded_store s f t D ws = sym (skip _ _ _ _ g refl) in (
-        (λ i. record { answer = sym h i; day = first_epoch D }),
+        sym (ap (λ (a : Answer). answered a (first_epoch D)) h),
         (ap (λ (x : Store). x.words) q, (ap (λ (x : Store). x.bytes) q, sym (skip _ _ _ _ g refl))),
       )
 
-  pub short-load : too_short s ≡ true → LoadIs NoRoom s.words s.bytes
+  pub short-load : too_short s ≡ true → LoadIs (Err refusal.NoRoom) s.words s.bytes
   unfolding stored_load_answer
-  short-load h = refused-load NoRoom (hit _ _ _ h) refl
+  short-load h = refused-load refusal.NoRoom (hit _ _ _ h)
 
-  pub refused-by : (a : Answer) → too_short s ≡ false → timed_load_answer f t D ws ≡ a → is_done a ≡ false → LoadIs a s.words s.bytes
+  pub refused-by : (x : Refusal) → too_short s ≡ false → timed_load_answer f t D ws ≡ Err x → LoadIs (Err x) s.words s.bytes
   unfolding stored_load_answer
-  refused-by a h k = refused-load a (skip _ _ _ _ h k)
+  refused-by x h k = refused-load x (skip _ _ _ _ h k)
 
-  pub done-load : {a : Answer} {u : Table} {w b : List ℕ} → Long s → timed_load_answer f t D ws ≡ Done → u ≡ given_table ws t → a
-      ≡ loading_answer s
-      → w ≡ (loaded_store s f u).words → b ≡ (loaded_store s f u).bytes → site_in (store w b) ≡ site_loaded s f u → LoadIs a w b
-  unfolding stored_load_answer timed_loaded_store timed_loaded_site loading_answer
-  done-load {a} {u} {w} {b} l h k z p q r =
+  -- storage that is long enough is loaded
+  pub loads : {a : Answer} → too_short s ≡ false → a ≡ loading_answer s → is_done a ≡ true
+  unfolding loading_answer
+  loads h z = ap is_done (z ∙ skip _ _ _ _ h refl)
+
+  pub done-load : {u : Table} {w b : List ℕ} → Long s → timed_load_answer f t D ws ≡ Done → u ≡ given_table ws t
+      → w ≡ (loaded_store s f u).words → b ≡ (loaded_store s f u).bytes → site_in (store w b) ≡ site_loaded s f u
+      → LoadIs (Ok (first_epoch D)) w b
+  unfolding stored_load_answer timed_loaded_store timed_loaded_site
+  done-load {u} {w} {b} l h k p q r =
       let e = enough s l.0 l.1 in
       let g : stored_load_answer s f t D ws ≡ Done = skip _ _ _ _ e h in
-      let v : a ≡ stored_load_answer s f t D ws = z ∙ skip _ _ _ _ e refl ∙ sym g in
       let x : loaded_store s f u ≡ timed_loaded_store s f t D ws = ap (loaded_store s f) k ∙ sym (hit _ _ _ (ap is_done g)) in (
-        (λ i. record { answer = v i; day = first_epoch D }),
+        sym (ap (λ (a : Answer). answered a (first_epoch D)) g),
         (
           p ∙ ap (λ (y : Store). y.words) x,
           (
@@ -153,7 +158,7 @@ module _ (s : Store) (f : Config) (t : Table) (D : ℕ) (ws : List Window) where
 module _ (s : Store) (d : Day) (l : List ℕ) (ws : List Window) where
   abbrev pub TurnIs : Event → Answer → Day → List ℕ → List ℕ → List ℕ → Type 0
   TurnIs e a n w b x =
-      (record { answer = a; day = n } ≡ day_answer s d l ws e)
+      ((a ≡ stored_answer s d l ws e) × (n ≡ stored_day s d l ws e))
       × ((w ≡ (timed_store s d l ws e).words)
       × ((b ≡ (timed_store s d l ws e).bytes) × ((site_in (store w b) ≡ timed_site s d l ws e) × (x ≡ area_with s l e))))
 
@@ -183,7 +188,7 @@ module _ (s : Store) (d : Day) (l : List ℕ) (ws : List Window) where
         let n : d ≡ stored_day s d l ws e =
         sym (read_same (λ (x : Day). x) (too_short s) d (timed_after t l ws e).day d refl
         (ap (λ (x : Timed). x.day) (plain-after t l ws e h))) in (
-          (λ i. record { answer = v i; day = n i }),
+          (v, n),
           (
             p ∙ ap (λ (x : Store). x.words) (sym plain-stored),
             (
@@ -267,14 +272,14 @@ module _ (s : Store) (d : Day) (l : List ℕ) (ws : List Window) where
 
 -- of storage that is long enough, all is as the site with its day has it
 pub as-timed : (s : Store) (d : Day) (l : List ℕ) (ws : List Window) (e : Event) → Long s
-    → (day_answer s d l ws e ≡ record { answer = timed_answer (timed_in s d) l ws e; day = (timed_after (timed_in s d) l ws e).day })
+    → ((stored_answer s d l ws e ≡ timed_answer (timed_in s d) l ws e) × (stored_day s d l ws e ≡ (timed_after (timed_in s d) l ws e).day))
     × ((timed_site s d l ws e ≡ (timed_after (timed_in s d) l ws e).site) × (area_with s l e ≡ area_after (site_in s) l e))
 unfolding stored_answer stored_day timed_site
 as-timed s d l ws e h =
     let k = enough s h.0 h.1 in
     let a : stored_answer s d l ws e ≡ timed_answer (timed_in s d) l ws e = skip _ _ _ _ k refl in
     let n : stored_day s d l ws e ≡ (timed_after (timed_in s d) l ws e).day = skip _ _ _ _ k refl in
-    ((λ i. record { answer = a i; day = n i }), (skip _ _ _ _ k refl, (as-site s l e h.0 h.1).1.1))
+    ((a, n), (skip _ _ _ _ k refl, (as-site s l e h.0 h.1).1.1))
 
 -- a plain load that is accepted is refused with windows only as 16
 pub as_load : (s : Store) (f : Config) (t : Table) (D : ℕ) (ws : List Window) → Long s → load_answer f t ≡ Done → stored_load_answer s f t D ws

@@ -2,9 +2,7 @@
 -- Each event is lent a list of windows.
 -- Assumes nothing.
 use Rattle.std.specs.Prelude.{Bool, cond, List, ℕ}
-use Rattle.node.specs.Answers.{is_done}
-use Rattle.node.specs.declared.Answer.{Answer}
-use Rattle.node.specs.declared.Answer.TheVariants.{Done, BadWindows}
+use Rattle.node.specs.Answers.{Answer, Done, BadWindows, is_done}
 use Rattle.site.specs.Events.{is_end}
 use Rattle.site.specs.Steps.{area_after}
 use Rattle.site.specs.declared.Event.{Event}

@@ -2,9 +2,7 @@
 -- report of a close: the answer, and what each lent word and byte, the day and the tally are then. A refusal changes none.
 -- Assumes nothing.
 use Rattle.std.specs.Prelude.{Bool, not, cond, ◌&&◌, ◌||◌, List, ℕ, eqb, ltb, length}
-use Rattle.node.specs.Answers.{number, is_done}
-use Rattle.node.specs.declared.Answer.{Answer}
-use Rattle.node.specs.declared.Answer.TheVariants.{NoRoom}
+use Rattle.node.specs.Answers.{Answer, NoRoom, is_done}
 use Rattle.site.specs.Answers.{area_size}
 use Rattle.site.specs.declared.Event.{Event}
 use Rattle.windows.specs.declared.Window.{Window}
@@ -14,7 +12,6 @@ use Rattle.machine.specs.declared.Day.{Day}
 use Rattle.machine.specs.reports.Reports.{reports_size, put_report}
 use Rattle.tally.specs.declared.Tally.{Tally}
 use Rattle.machine.specs.combined.Kept.{Kept, kept_answer, kept_after}
-use Rattle.machine.specs.declared.StepResult.{StepResult}
 
 -- what storage, day, area and tally stand for
 abbrev pub kept_in : Store → Day → List ℕ → Tally → Kept
@@ -46,12 +43,3 @@ step_report s d area ws t out e = cond (step_accepted s d area ws t out e) (put_
 -- what storage, day, area and tally stand for then
 unfoldable pub step_kept : Store → Day → List ℕ → List Window → Tally → List ℕ → Event → Kept
 step_kept s d area ws t out e = cond (lent_too_short s area out) (kept_in s d area t) (kept_after (kept_in s d area t) ws e)
-
--- the answer's number, with the day and the tally
-abbrev pub step_result : Store → Day → List ℕ → List Window → Tally → List ℕ → Event → StepResult
-step_result s d area ws t out e =
-    record {
-      code = number (step_answer s d area ws t out e);
-      day = (step_kept s d area ws t out e).timed.day;
-      tally = (step_kept s d area ws t out e).tally;
-    }

@@ -1,10 +1,8 @@
 -- What each accepted event makes of the storage of a site: which words and bytes it writes. It writes no other.
 -- Assumes nothing.
 use Rattle.std.specs.Prelude.{cond, List, ℕ, ◌+◌, ◌-◌, get_or, set}
-use Rattle.node.specs.Answers.{is_done}
+use Rattle.node.specs.Answers.{Answer, NoRoom, is_done}
 use Rattle.node.specs.Negotiation.{packet_of}
-use Rattle.node.specs.declared.Answer.{Answer}
-use Rattle.node.specs.declared.Answer.TheVariants.{NoRoom}
 use Rattle.site.specs.Members.{header_of, member_at, down_member}
 use Rattle.site.specs.Parts.{packet_part}
 use Rattle.site.specs.Answers.{answer_heard, answer_of}

@@ -2,8 +2,7 @@
 -- The first tests of an answer.
 -- Assumes nothing.
 use Rattle.std.specs.Prelude.{not, cond, ℕ}
-use Rattle.node.specs.declared.Answer.{Answer}
-use Rattle.node.specs.declared.Answer.TheVariants.{Done, NoSuchNode, WrongPhase, NotLive}
+use Rattle.node.specs.Answers.{Answer, Done, NoSuchNode, WrongPhase, NotLive}
 use Rattle.site.specs.Members.{outside, is_live}
 use Rattle.site.specs.declared.SiteHeader.{SiteHeader}
 use Rattle.site.specs.Model.{Member}

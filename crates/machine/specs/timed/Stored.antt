@@ -1,11 +1,9 @@
 -- A site in storage (crates/machine) with its day: the answers to a load and to an event, and what the storage, the day and the site that
 -- it stands for are then.
 -- Assumes nothing.
-use Rattle.std.specs.Prelude.{Bool, cond, List, ℕ, ◌+◌, eqb, length}
+use Rattle.std.specs.Prelude.{Bool, Result, cond, List, ℕ, ◌+◌, eqb, length}
 use Rattle.lists.specs.All.{iter}
-use Rattle.node.specs.Answers.{is_done}
-use Rattle.node.specs.declared.Answer.{Answer}
-use Rattle.node.specs.declared.Answer.TheVariants.{NoRoom}
+use Rattle.node.specs.Answers.{Answer, NoRoom, is_done, answered}
 use Rattle.node.specs.declared.Config.{Config}
 use Rattle.site.specs.declared.Table.{Table}
 use Rattle.site.specs.Model.{Site}
@@ -20,7 +18,7 @@ use Rattle.machine.specs.Loading.{member_read, loaded_store}
 use Rattle.machine.specs.timed.Timed.{Timed, first_epoch, epoch_after, given_table, timed_load_answer, loaded_timed, begins_epoch}
 use Rattle.machine.specs.timed.Timed.{answer_by, timed_answer, next_day, timed_after}
 use Rattle.machine.specs.declared.Day.{Day}
-use Rattle.machine.specs.declared.DayAnswer.{DayAnswer}
+use Rattle.node.specs.declared.Refusal.{Refusal}
 
 -- the site with its day that storage stands for
 abbrev pub timed_in : Store → Day → Timed
@@ -38,9 +36,9 @@ timed_loaded_store s f t D ws = cond (is_done (stored_load_answer s f t D ws)) (
 unfoldable pub timed_loaded_site : Store → Config → Table → ℕ → List Window → Site
 timed_loaded_site s f t D ws = cond (is_done (stored_load_answer s f t D ws)) (loaded_timed f t D ws).site (site_in s)
 
--- the answer, and the day with which the site begins
-abbrev pub stored_load : Store → Config → Table → ℕ → List Window → DayAnswer
-stored_load s f t D ws = record { answer = stored_load_answer s f t D ws; day = first_epoch D }
+-- the day with which the site begins, where the load is accepted
+abbrev pub stored_load : Store → Config → Table → ℕ → List Window → Result Day Refusal
+stored_load s f t D ws = answered (stored_load_answer s f t D ws) (first_epoch D)
 
 -- the demand of epoch e for the node at index i, as a want of the storage: one byte
 unfoldable pub given_at : List Window → ℕ → List ℕ → ℕ → Store → Store
@@ -57,10 +55,6 @@ stored_answer s d area ws e = cond (too_short s) NoRoom (timed_answer (timed_in 
 -- the day after an event
 unfoldable pub stored_day : Store → Day → List ℕ → List Window → Event → Day
 stored_day s d area ws e = cond (too_short s) d (timed_after (timed_in s d) area ws e).day
-
--- the answer with the day
-abbrev pub day_answer : Store → Day → List ℕ → List Window → Event → DayAnswer
-day_answer s d area ws e = record { answer = stored_answer s d area ws e; day = stored_day s d area ws e }
 
 -- where the next epoch begins, its demands are given before the end
 abbrev pub begun_store : Store → Day → List ℕ → List Window → Event → Store
@@ -81,9 +75,6 @@ answered_by ok s area e = cond (too_short s) NoRoom (answer_by ok (site_in s) ar
 
 unfoldable pub day_by : Bool → Store → Day → List ℕ → Event → Day
 day_by ok s d area e = cond (is_done (answered_by ok s area e)) (next_day (timed_in s d) e) d
-
-abbrev pub day_answer_by : Bool → Store → Day → List ℕ → Event → DayAnswer
-day_answer_by ok s d area e = record { answer = answered_by ok s area e; day = day_by ok s d area e }
 
 unfoldable pub store_by : Bool → Store → Day → List ℕ → List Window → Event → Store
 store_by ok s d area ws e = cond (is_done (answered_by ok s area e)) (store_after (begun_store s d area ws e) area e) s

@@ -4,10 +4,8 @@
 -- Assumes nothing.
 use Rattle.std.specs.Prelude.{Bool, cond, ◌&&◌, List, ℕ, ◌+◌, leb, get_or}
 use Rattle.lists.specs.All.{tab}
-use Rattle.node.specs.Answers.{is_done}
+use Rattle.node.specs.Answers.{Answer, Done, BadWindows, is_done}
 use Rattle.node.specs.Figures.{is_last}
-use Rattle.node.specs.declared.Answer.{Answer}
-use Rattle.node.specs.declared.Answer.TheVariants.{Done, BadWindows}
 use Rattle.site.specs.Members.{nobody}
 use Rattle.site.specs.Load.{no_row, load_answer, loaded_site}
 use Rattle.site.specs.Answers.{answer_of}

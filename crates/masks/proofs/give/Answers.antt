@@ -3,12 +3,16 @@ use mathlib.Core.Path.{◌≡◌, refl, sym, ap, ◌∙◌}
 use Prim.Native.Nat.{◌/◌, ◌^◌, ℕ, ◌<◌, ◌-◌, ◌+◌}
 use native.Mathlib.Nat.{div-one}
 use native.Mathlib.Omega.{arith}
-use lib.ListN.{length, length-set}
+use lib.ListN.{length, length-set, get_or}
+use lib.Dec.{eqb}
+use mathlib.Core.Bool.{cond}
+use borrow.Author.Tests.{eq-eqb, ne_eqb}
+use Rattle.words.proofs.Tests.{hit, skip}
 use lib.Count.{count_trailing_zeros}
 use lib.Pow.{shr_le}
 use Rattle.masks.proofs.Turns.{Next, next_bit, give-none, give-turn, give-end}
 use Rattle.masks.proofs.give.Goals as goal
-use Rattle.masks.proofs.give.Goals.{In-loop-rest}
+use Rattle.masks.proofs.give.Goals.{In-loop-rest, Joined-old-eq0, then-old-eq0, else-old-eq0}
 
 pub loop-rest-init : goal.loop-rest-init
 loop-rest-init c =
@@ -63,6 +67,14 @@ overflow_add-at-in-loop-rest c = omega (arith, within c.before.before)
 pub loop-rest-smaller : goal.loop-rest-smaller
 loop-rest-smaller c = omega (arith, within c.before.before)
 
+-- what stands at the slot then
+kept : (c : Joined-old-eq0) → c.if-old-eq0.new ≡ cond (eqb (get_or c.loop-rest.owners (c.loop-rest.at + count_trailing_zeros 64 c.loop-rest.rest) 0) 0) c.args.j (get_or c.loop-rest.owners (c.loop-rest.at + count_trailing_zeros 64 c.loop-rest.rest) 0)
+kept c =
+    elim c.if-old-eq0.branch [
+      | then-old-eq0 w ↦ w.new-is ∙ sym (hit _ _ _ (eq-eqb _ 0 w.if-old-eq0.true))
+      | else-old-eq0 w ↦ w.new-is ∙ sym (skip _ _ _ _ (ne_eqb _ 0 w.if-old-eq0.false) refl)
+    ]
+
 pub loop-rest-preserved : goal.loop-rest-preserved
 loop-rest-preserved c =
     let a = c.args in
@@ -75,7 +87,7 @@ loop-rest-preserved c =
       (next c.before.before).left ∙ ap (λ (x : ℕ). a.w / 2 ^ x) f,
       length-set l.owners (l.at + t) _ ∙ l.invariant.4,
       give-turn a.owners.now a.from a.w a.j l.at t _ _ l.owners l.invariant.5 l.invariant.0 (next c.before.before)
-          (omega (arith, within c.before.before, l.invariant.4)) _ c.pick.ensures,
+          (omega (arith, within c.before.before, l.invariant.4)) _ (kept c),
     )
 
 pub shape_of-owners : goal.shape_of-owners

@@ -2,7 +2,7 @@
 -- Assumes nothing.
 use mathlib.Core.Path.{◌≡◌, refl, sym, ap, ap₂, ◌∙◌}
 use mathlib.Core.Bool.{Bool, true, false, cond, ◌||◌}
-use mathlib.Core.List.{List}
+use mathlib.Core.List.{List, ◌++◌}
 use Prim.Native.Nat.{ℕ, zero, suc, ◌+◌, ◌-◌, ◌^◌, ◌≤◌, ◌<◌}
 use native.Mathlib.Omega.{arith}
 use borrow.Author.Tests.{ltb-true, ltb-false, le-leb, lt-leb, lt-ltb, eq-eqb, ne_eqb}
@@ -10,8 +10,8 @@ use lib.Bits
 use lib.Bits.{or_lt}
 use lib.Pow.{pow-lt}
 use lib.Dec.{eqb, leb, ltb}
-use lib.ListN.{length, get_or, replicate, get_or-eq_default}
-use lib.Seq.{ext_get_or}
+use lib.ListN.{length, get_or, drop, get_or-eq_default}
+use lib.Seq.{ext_get_or, get_or_at, drop-cons}
 use Rattle.words.specs.Bits.{has_bit, is_in, word_of, with_bit}
 use Rattle.words.proofs.Tests.{by-test, same_or_not, both, or-back, hit}
 use Rattle.words.proofs.Laws.{has_bit-or, has_bit-out, has_bit-power, has_bit-word_of, same_word, word_of-lt, word_of-ext, word_of-below}
@@ -19,6 +19,11 @@ use Rattle.lists.specs.All.{bounded, tab}
 use Rattle.lists.proofs.Laws.{get_d-tab, length-tab}
 use Rattle.lists.proofs.Bounded.{bounded_at, bounded-over, bounded-make}
 use Rattle.membership.specs.counters.Counters.{plus, counted, with_self, members_of}
+
+-- what stands where a list that is filled by its rule has come to
+pub fill-next : (n : ℕ) (f : ℕ → ℕ) (d : List ℕ) → n < length d → get_or (tab n f ++ drop n d) n 0 ≡ get_or d n 0
+fill-next n f d h = ap (λ (l : List ℕ). get_or (tab n f ++ l) n 0) (drop-cons d n 0 h)
+    ∙ get_or_at (tab n f) (get_or d n 0) (drop (suc n) d) 0 n (length-tab n f)
 
 pub plus-le : (x : ℕ) (t : Bool) → plus x t ≤ x + 1
 plus-le x true = by-test (λ (y : ℕ). y ≤ x + 1) (ltb x 255) (x + 1) x (λ e. omega arith) (λ e. omega arith)
@@ -131,20 +136,3 @@ module _ (p : ℕ → Bool) where
   self-with (suc k) =
       let e : suc k - 1 ≡ k = omega arith in
       hit (ltb 0 (suc k)) _ _ (lt-ltb 0 (suc k) (omega arith)) ∙ ap (with_bit (word_of 32 p)) e ∙ one-with k
-
--- a counter under a bound of 0 or 255
-pub left_below : (x : ℕ) (t : Bool) → x < cond t 0 255 → x ≡ cond t 0 x
-left_below x true h = absurd (omega (arith, h))
-left_below x false h = refl
-
-pub left-top : (x : ℕ) (t : Bool) → x ≤ 255 → cond t 0 255 ≤ x → cond t 0 255 ≡ cond t 0 x
-left-top x true b h = refl
-left-top x false b h = omega arith
-
--- the counters as the next round begins
-pub kept-tab : (counters : List ℕ) (t : Bool) → length counters ≡ 32 → tab 32 (λ i. cond t 0 (get_or counters i 0))
-    ≡ cond t (replicate 32 0) counters
-unfolding tab
-kept-tab counters true h = refl
-kept-tab counters false h = ext_get_or 0 _ counters (length-tab 32 (λ i. get_or counters i 0) ∙ sym h)
-    (λ i l. get_d-tab 0 32 (λ i. get_or counters i 0) i (let m = length-tab 32 (λ i. get_or counters i 0) in omega arith))

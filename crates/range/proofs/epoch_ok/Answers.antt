@@ -11,18 +11,13 @@ use Rattle.node.specs.Figures.{top_version}
 use Rattle.range.specs.Range.{epoch_ok}
 use Rattle.range.proofs.Keeps.{free-ok}
 use Rattle.range.proofs.epoch_ok.Goals as goal
-use Rattle.range.proofs.epoch_ok.Goals.{Start}
-
--- the counters are 32, also behind the first test
-long : (c : Start) → length c.args.c.counters ≡ 32
-long c = search rules
 
 pub returns-then-s-c : goal.returns-then-s-c
 unfolding epoch_ok
 returns-then-s-c c = sym (both (le-ltb _ _ c.if-s-c.true) (is _))
 
 pub slice_bounds-all_fit-end : goal.slice_bounds-all_fit-end
-slice_bounds-all_fit-end c = sym (long c.before.before.before.before.before.before)
+slice_bounds-all_fit-end c = let long : length c.args.c.counters ≡ 32 = search rules in sym long
 
 pub returns : goal.returns
 unfolding epoch_ok

@@ -1,19 +1,15 @@
-use mathlib.Core.Path.{refl, sym, ◌∙◌}
-use native.Mathlib.Omega.{arith}
+use Rattle.std.proofs.Common.{arith}
+use Rattle.std.proofs.lemmas.Result.{err_from_is_err_and}
 use Rattle.reduce.proofs.Outcome.{refused-call, call-short, done-call}
 use Rattle.reduce.proofs.hydra_reduce.Goals as goal
 
-pub returns-then-c-ne0 : goal.returns-then-c-ne0
-returns-then-c-ne0 c = refused-call _ _ _ _ _ c.reduce-r.ensures _ c.code-c.ensures c.if-c-ne0.true _
+pub returns-in_err-length : goal.returns-in_err-length
+returns-in_err-length c =
+    let p = err_from_is_err_and c.from_residual.result c.from_residual.ensures.1 in
+    rw (p.1, p.2) (refused-call _ _ _ _ _ c.in_err-length.ensures _)
 
 pub overflow_cast-length : goal.overflow_cast-length
-overflow_cast-length c = omega (
-  arith,
-  call-short _ _ _ _ _ c.reduce-r.ensures _ c.code-c.ensures
-      c.if-c-ne0.false,
-)
+overflow_cast-length c = omega (arith, call-short _ _ _ _ _ c.in_ok-length.ensures)
 
 pub returns : goal.returns
-returns c =
-    let e = c.if-c-ne0.false in
-    done-call _ _ _ _ _ c.reduce-r.ensures _ (sym e ∙ c.code-c.ensures) refl _
+returns c = done-call _ _ _ _ _ c.in_ok-length.ensures _

@@ -7,31 +7,22 @@ use Prim.Native.Nat.{ℕ, suc, ◌+◌, ◌-◌, ◌≤◌, ◌<◌}
 use native.Mathlib.Omega.{arith}
 use borrow.Author.Tests.{eqb-true, eqb-false}
 use lib.Dec.{eqb}
-use lib.ListN.{length, get_or, take, drop, drop_of_length-le, length-drop}
+use lib.ListN.{length, take, drop, drop_of_length-le, length-drop}
 use lib.Seq.{drop-cons, drop-drop, length-take-le}
 use Rattle.text.specs.Read.{before, split}
-use Rattle.text.proofs.Pieces.{before-le, before_more, split-last, split-cut, Some, split-some}
+use Rattle.text.proofs.Pieces.{before-le, split-last, split-cut, HasPiece, split-some}
 use Rattle.script.specs.lines.Lines.{on_line, line_in, line_at}
 use Rattle.script.specs.declared.Line.TheVariants.{Nothing, Open, Ended}
 
--- a byte that is none before the line's end
-pub none-there : (s : List ℕ) (i k : ℕ) {e : ℕ} → i + k < length s → e ≡ i + k + before 10 (drop (i + k) s) → (get_or s (i + k) 0 ≡ 10 → ⊥)
-    → e ≡ i + suc k + before 10 (drop (i + suc k) s)
-none-there s i k h p f =
-    let x : i + k + 1 ≡ i + suc k = omega arith in
-    let n : before 10 (drop (i + k) s) ≡ suc (before 10 (drop (i + suc k) s)) = before_more 10 s (i + k) h f
-    ∙ ap (λ (j : ℕ). suc (before 10 (drop j s))) x in
-    omega arith
-
 -- a piece with others behind it is an ended line
-pub on-cut : {A : Type 0} (none unended : A) (ended : List ℕ → List (List ℕ) → A) (l : List ℕ) (ps : List (List ℕ)) → Some ps
+pub on-cut : {A : Type 0} (none unended : A) (ended : List ℕ → List (List ℕ) → A) (l : List ℕ) (ps : List (List ℕ)) → HasPiece ps
     → on_line none unended ended (l ∷ ps) ≡ ended l ps
 unfolding on_line
 on-cut none unended ended l [] h = absurd h
 on-cut none unended ended [] (p ∷ ps) h = refl
 on-cut none unended ended (b ∷ l) (p ∷ ps) h = refl
 
-line-cut : (at : ℕ) (l : List ℕ) (ps : List (List ℕ)) → Some ps → line_in at (l ∷ ps) ≡ Ended (at + length l)
+line-cut : (at : ℕ) (l : List ℕ) (ps : List (List ℕ)) → HasPiece ps → line_in at (l ∷ ps) ≡ Ended (at + length l)
 unfolding line_in
 line-cut at = on-cut Nothing Open _
 
@@ -97,7 +88,7 @@ pub none_is : (s : List ℕ) (at : ℕ) → line_at s at ≡ Nothing → split 1
 unfolding line_in on_line
 none_is s at h = go (split 10 (drop at s)) (split-some 10 (drop at s)) h
   where
-    go : (ps : List (List ℕ)) → Some ps → line_in at ps ≡ Nothing → ps ≡ [] ∷ []
+    go : (ps : List (List ℕ)) → HasPiece ps → line_in at ps ≡ Nothing → ps ≡ [] ∷ []
     go [] k h = absurd k
     go ([] ∷ []) k h = refl
     go ((b ∷ l) ∷ []) k h = absurd (let z : ◌≡◌ {A = ℕ} 0 1 = cc in omega arith)

@@ -18,11 +18,11 @@ use Rattle.lists.proofs.Laws.{all-make}
 use Rattle.allotment.specs.Allotment.{top_request}
 use Rattle.text.specs.Read.{split, front}
 use Rattle.script.specs.lines.Lines.{on_line}
-use Rattle.script.specs.lines.Fields.{four_of, five_of}
-use Rattle.script.specs.declared.Four.{Four}
-use Rattle.script.specs.declared.Four.TheVariants.{NotFour, Quad}
-use Rattle.node.specs.declared.Answer.{Answer}
-use Rattle.node.specs.declared.Answer.TheVariants.{Done, BadNames, OutOfRange}
+use Rattle.script.specs.lines.Fields.{numbers_of}
+use Rattle.std.specs.Prelude.{Option, Some, None, Result, Ok, Err, IfOk, MatchResult}
+use Rattle.node.specs.Answers.{Done}
+use Rattle.node.specs.declared.Refusal.{Refusal}
+use Rattle.node.specs.declared.Refusal.TheVariants.{BadNames, OutOfRange}
 use Rattle.node.specs.Figures.{config_ok}
 use Rattle.site.specs.Load.{row_ok, no_row, table_ok, load_answer}
 use Rattle.node.specs.declared.Config.{Config}
@@ -32,9 +32,9 @@ use Rattle.script.specs.load.Opening.{settings_names, table_names, event_names, 
 use Rattle.script.specs.load.Opening.{settings_line}
 use Rattle.script.specs.load.Opening.{row_in, row_good, row_stored, empty_table, table_lines, Opening, then, opening, config_of, config_read}
 use Rattle.script.specs.load.Opening.{script_head_of}
-use Rattle.script.specs.declared.ScriptHead.{ScriptHead}
-use Rattle.script.specs.load.Inner.{from_events, from_rows, from_table, from_settings}
-use Rattle.script.proofs.load.Laws.{Limits, limits}
+use Rattle.script.specs.declared.Opened.{Opened}
+use Rattle.script.specs.declared.RefusedHead.{RefusedHead}
+use Rattle.script.proofs.load.Laws.{Limits, limits, from_events, from_rows, from_table, from_settings}
 
 -- how many lines the pieces are
 unfoldable pub lines : List (List ℕ) → ℕ
@@ -90,7 +90,7 @@ ends-told Q (refused n a) h = h
 ends-told Q (got x ls) h = (h, refl)
 
 -- a line: a refusal, or what an ended line comes to
-ends-line : {A : Type 0} (Q : A → List (List ℕ) → Type 0) (n : ℕ) (a b : Answer) (c : List ℕ → List (List ℕ) → Reading A)
+ends-line : {A : Type 0} (Q : A → List (List ℕ) → Type 0) (n : ℕ) (a b : Refusal) (c : List ℕ → List (List ℕ) → Reading A)
     (ps : List (List ℕ)) → n ≤ 36
     → ((l : List ℕ) (ls : List (List ℕ)) → lines ls ≤ lines ps → Ends Q (c l ls)) → Ends Q (on_line (refused n a) (refused n b) c ps)
 unfolding on_line
@@ -115,7 +115,7 @@ settings-end : (Q : Config → List (List ℕ) → Type 0) (n : ℕ) (ps : List 
     → ((f : Config) (ls : List (List ℕ)) → config_ok f ≡ true → lines ls ≤ lines ps → Q f ls) → Ends Q (settings_line n ps)
 unfolding settings_line
 settings-end Q n ps h g = ends-line Q n BadNames OutOfRange _ ps h
-    (λ l ls k. go (config_of_five (five_of (split 32 l))) (config_ok (config_of_five (five_of (split 32 l)))) refl ls k)
+    (λ l ls k. go (config_of_five (numbers_of 5 (split 32 l))) (config_ok (config_of_five (numbers_of 5 (split 32 l)))) refl ls k)
   where
     go : (f : Config) (t : Bool) → config_ok f ≡ t → (ls : List (List ℕ)) → lines ls ≤ lines ps
         → Ends Q (cond t (got f ls) (refused n OutOfRange))
@@ -145,11 +145,11 @@ good_more f i t r h e q =
     there : (j : ℕ) → j < i → row_ok f j (get_or (set t.rows i r) j no_row) ≡ true
     there j z = rw (get_or-set_other t.rows i j r no_row (λ x. omega arith)) (q.good j z)
 
-good-row : (f : Config) (i : ℕ) (x : Four) → row_good f i x ≡ true → row_ok f i (row_in x) ≡ true
-good-row f i NotFour h = absurd (let z : ◌≡◌ {A = ℕ} 0 1 = cc in omega arith)
-good-row f i (Quad j v m d) h =
-    let r = row_in (Quad j v m d) in
+good-row : (f : Config) (i : ℕ) (x : Option (List ℕ)) → row_good f i x ≡ true → row_ok f i (row_in x) ≡ true
+good-row f i (Some (j ∷ v ∷ m ∷ d ∷ [])) h =
+    let r = row_in (Some (j ∷ v ∷ m ∷ d ∷ [])) in
     and_right (leb d top_request) (row_ok f i r) (and_right (eqb j (i + 1)) (leb d top_request && row_ok f i r) h)
+good-row f i _ h = absurd (let z : ◌≡◌ {A = ℕ} 0 1 = cc in omega arith)
 
 -- the rows
 table-end : (Q : Table → List (List ℕ) → Type 0) (f : Config) (left i n : ℕ) (t : Table) (ps : List (List ℕ)) → n + left ≤ 36
@@ -162,17 +162,17 @@ table-end Q f zero i n t ps h k q g =
 table-end Q f (suc left) i n t ps h k q g =
     ends-line Q n BadNames OutOfRange _ ps (omega arith)
     (λ l ls o.
-    go (four_of (split 32 l)) ls (row_good f i (four_of (split 32 l))) refl
+    go (numbers_of 4 (split 32 l)) ls (row_good f i (numbers_of 4 (split 32 l))) refl
     (λ p.
-    table-end Q f left (i + 1) (n + 1) (row_stored t i (row_in (four_of (split 32 l)))) ls (omega arith) (omega arith) p
+    table-end Q f left (i + 1) (n + 1) (row_stored t i (row_in (numbers_of 4 (split 32 l)))) ls (omega arith) (omega arith) p
     (λ u rs a b.
     let z : i + 1 + left ≡ i + suc left = omega arith in
     g u rs (rw z at a) (omega arith))))
   where
-    more : Four → List (List ℕ) → Reading Table
+    more : Option (List ℕ) → List (List ℕ) → Reading Table
     more x ls = table_lines f left (i + 1) (n + 1) (row_stored t i (row_in x)) ls
 
-    go : (x : Four) (ls : List (List ℕ)) (b : Bool) → row_good f i x ≡ b
+    go : (x : Option (List ℕ)) (ls : List (List ℕ)) (b : Bool) → row_good f i x ≡ b
         → (GoodRows f (i + 1) (row_stored t i (row_in x)) → Ends Q (more x ls))
         → Ends Q (cond b (more x ls) (refused n OutOfRange))
     go x ls true e r = r (good_more f i t (row_in x) (omega arith) (good-row f i x e) q)
@@ -199,7 +199,7 @@ pub opening-ends : (ps : List (List ℕ)) → Ends (WellFormed ps) (opening ps)
 unfolding opening config_read
 opening-ends ps =
     let names = names_line 1 settings_names tt ps in
-    ends-then (λ (u : Unit {0}) ls. (lines ls ≤ lines ps) × (names ≡ got u ls)) (WellFormed ps) names (λ (u : Unit {0}) a. from_settings a)
+    ends-then (λ (u : Unit {0}) ls. (lines ls ≤ lines ps) × (names ≡ got u ls)) (WellFormed ps) names from_settings
     (ends-told (λ (u : Unit {0}) ls. lines ls ≤ lines ps) names (names-end (λ (u : Unit {0}) ls. lines ls ≤ lines ps) 1 settings_names tt ps
     (omega arith) (λ ls l. l)))
     (λ u a la.
@@ -209,7 +209,7 @@ opening-ends ps =
     (settings-end (λ (f : Config) ls. (config_ok f ≡ true) × (lines ls ≤ lines ps)) 2 a (omega arith)
     (λ f ls e l. (e, omega (arith, la.0)))))
     (λ f b eb.
-    ends-then (λ (v : Unit {0}) ls. lines ls ≤ lines ps) (WellFormed ps) (names_line 3 table_names tt b) (λ (v : Unit {0}) d. from_rows f d)
+    ends-then (λ (v : Unit {0}) ls. lines ls ≤ lines ps) (WellFormed ps) (names_line 3 table_names tt b) (from_rows f)
     (names-end (λ (v : Unit {0}) ls. lines ls ≤ lines ps) 3 table_names tt b (omega arith) (λ ls l. omega (arith, eb.0.1)))
     (λ v d ld.
     let s : Limits f = limits f eb.0.0 in
@@ -233,11 +233,14 @@ pub opening-loads : (ps : List (List ℕ)) (o : Opening) (ls : List (List ℕ)) 
     → load_answer o.config o.table ≡ Done
 opening-loads ps o ls e = (opening-fine ps o ls e).loads
 
--- the answer to a script has the figures read, whether it opens or not
-pub opened-config : (s : List ℕ) {o : ScriptHead} → o ≡ script_head_of s (config_read (split 10 s)) (opening (split 10 s))
-    → o.config ≡ config_read (split 10 s)
-opened-config s {o} h = ap (λ (x : ScriptHead). x.config) h ∙ go (opening (split 10 s)) refl
+-- the figures that are told of a script are those read, whether it opens or not
+pub opened-config : (s : List ℕ) {r : Result Opened RefusedHead} → r ≡ script_head_of s (config_read (split 10 s)) (opening (split 10 s))
+    → MatchResult r (λ o. o.config ≡ config_read (split 10 s)) (λ e. e.config ≡ config_read (split 10 s))
+opened-config s {r} h = subst (λ (x : Result Opened RefusedHead). Told x) (sym h) (go (opening (split 10 s)) refl)
   where
-    go : (r : Reading Opening) → opening (split 10 s) ≡ r → (script_head_of s (config_read (split 10 s)) r).config ≡ config_read (split 10 s)
+    Told : Result Opened RefusedHead → Type 0
+    Told x = MatchResult x (λ o. o.config ≡ config_read (split 10 s)) (λ e. e.config ≡ config_read (split 10 s))
+
+    go : (x : Reading Opening) → opening (split 10 s) ≡ x → Told (script_head_of s (config_read (split 10 s)) x)
     go (refused n a) e = refl
     go (got o ls) e = sym (opening-fine (split 10 s) o ls e).read

@@ -3,25 +3,22 @@
 -- The pieces between bytes 10 are the lines; behind the last byte 10 stands nothing, or a line without it.
 -- Assumes nothing.
 use Rattle.std.specs.Prelude.{Bool, false, cond, ◌&&◌, List, [], ◌∷◌, ℕ, zero, suc, ◌+◌, ◌-◌, eqb, leb, length, drop, set, replicate}
+use Rattle.std.specs.Prelude.{Option, Some, Result, Ok, Err}
 use Rattle.lists.specs.All.{same}
 use Rattle.allotment.specs.Allotment.{top_request}
 use Rattle.text.specs.Ascii.{ascii}
 use Rattle.text.specs.Read.{split}
 use Rattle.script.specs.lines.Lines.{on_line}
-use Rattle.script.specs.lines.Fields.{four_of, five_of}
-use Rattle.script.specs.declared.Five.{Five}
-use Rattle.script.specs.declared.Five.TheVariants.{NotFive, Quint}
-use Rattle.script.specs.declared.Four.{Four}
-use Rattle.script.specs.declared.Four.TheVariants.{NotFour, Quad}
-use Rattle.node.specs.Answers.{is_done}
-use Rattle.node.specs.declared.Answer.{Answer}
-use Rattle.node.specs.declared.Answer.TheVariants.{Done, BadNames, OutOfRange}
+use Rattle.script.specs.lines.Fields.{numbers_of}
+use Rattle.node.specs.declared.Refusal.{Refusal}
+use Rattle.node.specs.declared.Refusal.TheVariants.{BadNames, OutOfRange}
 use Rattle.node.specs.Figures.{config_ok, no_config}
 use Rattle.site.specs.Load.{row_ok, no_row}
 use Rattle.node.specs.declared.Config.{Config}
 use Rattle.site.specs.declared.Row.{Row}
 use Rattle.site.specs.declared.Table.{Table}
-use Rattle.script.specs.declared.ScriptHead.{ScriptHead}
+use Rattle.script.specs.declared.Opened.{Opened}
+use Rattle.script.specs.declared.RefusedHead.{RefusedHead}
 
 -- the names of the settings
 abbrev pub settings_names : List ℕ
@@ -37,7 +34,7 @@ event_names = ascii "event node with"
 
 -- what a part of the lines comes to: a refusal with the number of its line, or a value and the lines behind it
 pub data Reading (A : Type 0) : Type 0 where
-  refused : ℕ → Answer → Reading A
+  refused : ℕ → Refusal → Reading A
   got : A → List (List ℕ) → Reading A
 
 -- a line of names, of which the line number is given: the lines behind it
@@ -45,25 +42,26 @@ unfoldable pub names_line : {A : Type 0} → ℕ → List ℕ → A → List (Li
 names_line n names x ps = on_line (refused n BadNames) (refused n BadNames) (λ l ls. cond (same l names) (got x ls) (refused n BadNames)) ps
 
 -- five numbers as figures
-abbrev pub config_of_five : Five → Config
-config_of_five NotFive = no_config
-config_of_five (Quint n k f h s) = record { nodes = n; slots = k; rounds = f; min_heard = h; split = s }
+abbrev pub config_of_five : Option (List ℕ) → Config
+config_of_five (Some (n ∷ k ∷ f ∷ h ∷ s ∷ [])) = record { nodes = n; slots = k; rounds = f; min_heard = h; split = s }
+config_of_five _ = no_config
 
 -- the line of settings
 unfoldable pub settings_line : ℕ → List (List ℕ) → Reading Config
 settings_line n ps =
     on_line (refused n BadNames) (refused n OutOfRange)
-    (λ l ls. cond (config_ok (config_of_five (five_of (split 32 l)))) (got (config_of_five (five_of (split 32 l))) ls) (refused n OutOfRange)) ps
+    (λ l ls. cond (config_ok (config_of_five (numbers_of 5 (split 32 l)))) (got (config_of_five (numbers_of 5 (split 32 l))) ls) (refused n OutOfRange)) ps
 
 -- four numbers as a row
-abbrev pub row_in : Four → Row
-row_in NotFour = no_row
-row_in (Quad j v m d) = record { version = v; flags = m; want = d }
+abbrev pub row_in : Option (List ℕ) → Row
+row_in (Some (j ∷ v ∷ m ∷ d ∷ [])) = record { version = v; flags = m; want = d }
+row_in _ = no_row
 
 -- a row is good at index i if its node is the number i + 1, and its values are within their ranges
-abbrev pub row_good : Config → ℕ → Four → Bool
-row_good f i NotFour = false
-row_good f i (Quad j v m d) = eqb j (i + 1) && (leb d top_request && row_ok f i (record { version = v; flags = m; want = d }))
+abbrev pub row_good : Config → ℕ → Option (List ℕ) → Bool
+row_good f i (Some (j ∷ v ∷ m ∷ d ∷ [])) =
+    eqb j (i + 1) && (leb d top_request && row_ok f i (record { version = v; flags = m; want = d }))
+row_good f i _ = false
 
 abbrev pub row_stored : Table → ℕ → Row → Table
 row_stored t i r = record { rows = set t.rows i r }
@@ -76,7 +74,7 @@ unfoldable pub table_lines : Config → ℕ → ℕ → ℕ → Table → List (
 table_lines f zero i n t ls = got t ls
 table_lines f (suc left) i n t ps =
     on_line (refused n BadNames) (refused n OutOfRange)
-    (λ l ls. cond (row_good f i (four_of (split 32 l))) (table_lines f left (i + 1) (n + 1) (row_stored t i (row_in (four_of (split 32 l)))) ls)
+    (λ l ls. cond (row_good f i (numbers_of 4 (split 32 l))) (table_lines f left (i + 1) (n + 1) (row_stored t i (row_in (numbers_of 4 (split 32 l)))) ls)
     (refused n OutOfRange)) ps
 
 -- settings and table
@@ -117,21 +115,13 @@ bytes_in (l ∷ m ∷ ls) = length l + suc (bytes_in (m ∷ ls))
 abbrev pub lines_start : List ℕ → List (List ℕ) → ℕ
 lines_start s ls = length s - bytes_in ls
 
--- the answer that refuses a line, with the figures read before it: the place is 0, and the table is empty
-abbrev pub refused_at : ℕ → Answer → Config → ScriptHead
-refused_at n a f = record { answer = a; line = n; at = 0; config = f; table = empty_table }
+-- a script whose opening was read, and figures f of it: a refusal of its line with the figures; otherwise the settings, the table and the
+-- place of the event lines
+abbrev pub script_head_of : List ℕ → Config → Reading Opening → Result Opened RefusedHead
+script_head_of s f (refused n r) = Err (record { refusal = r; line = n; config = f })
+script_head_of s f (got o ls) = Ok (record { at = lines_start s ls; config = o.config; table = o.table })
 
--- the answer to a script whose opening was read, and figures f of it: after a refusal that of its line with the figures, and otherwise Done
--- with line 0, the settings, the table and the place of the event lines
-abbrev pub script_head_of : List ℕ → Config → Reading Opening → ScriptHead
-script_head_of s f (refused n a) = refused_at n a f
-script_head_of s f (got o ls) = record { answer = Done; line = 0; at = lines_start s ls; config = o.config; table = o.table }
-
--- an answer read back: settings, table and the lines from its place on where it is Done, and otherwise a refusal with the number of its
--- line
-abbrev pub read_back : List ℕ → ScriptHead → Reading Opening
-read_back s r =
-    cond (is_done r.answer) (got (record {
-      config = r.config;
-      table = r.table;
-    }) (split 10 (drop r.at s))) (refused r.line r.answer)
+-- what was opened read back: settings, table and the lines from its place on, or the refusal of a line
+abbrev pub read_back : List ℕ → Result Opened RefusedHead → Reading Opening
+read_back s (Ok o) = got (record { config = o.config; table = o.table }) (split 10 (drop o.at s))
+read_back s (Err e) = refused e.line e.refusal

@@ -12,8 +12,8 @@ use Rattle.words.proofs.Tests.{clash, skip, read-choice, read_same}
 use Rattle.lists.specs.All.{iter}
 use Rattle.lists.specs.Bytes.{written}
 use Rattle.node.specs.Answers.{is_done}
-use Rattle.node.specs.declared.Answer.{Answer}
-use Rattle.node.specs.declared.Answer.TheVariants.{Done, NotANode, NoRoom, BadWindows}
+use Rattle.node.specs.Answers.{Answer}
+use Rattle.node.specs.Answers.{Done, NotANode, NoRoom, BadWindows}
 use Rattle.site.specs.Answers.{area_size, event_answer, answer_of}
 use Rattle.site.specs.Steps.{next_site, site_after}
 use Rattle.site.specs.Events.{is_end, is_close}

@@ -8,9 +8,7 @@ use borrow.Author.Tests.{le-ltb, ltb-false}
 use lib.Dec.{leb, ltb}
 use lib.ListN.{length}
 use Rattle.words.proofs.Tests.{clash, hit, skip, at_test, read-choice, read_same, and_left, or-neither}
-use Rattle.node.specs.Answers.{is_done, number}
-use Rattle.node.specs.declared.Answer.{Answer}
-use Rattle.node.specs.declared.Answer.TheVariants.{Done, NotANode, NoRoom}
+use Rattle.node.specs.Answers.{is_done, Answer, Done, NotANode, NoRoom, Crowded}
 use Rattle.node.proofs.Answers.{done-is, both-done}
 use Rattle.site.specs.Answers.{area_size, site_send, site_hear, answer_of}
 use Rattle.site.specs.Events.{is_close, is_end}
@@ -35,54 +33,30 @@ use Rattle.tally.specs.Ends.{tallied_answer, tally_at}
 use Rattle.tally.specs.declared.Tally.{Tally}
 use Rattle.machine.specs.combined.Kept.{Kept, first_refusal, kept_answer}
 use Rattle.machine.specs.combined.Stored.{kept_in, report_too_short, lent_too_short, step_answer, step_accepted, step_store, step_report, step_kept}
-use Rattle.machine.specs.combined.Stored.{step_result}
-use Rattle.machine.specs.declared.StepResult.{StepResult}
 use Rattle.machine.proofs.combined.Laws.{few-short, kept-refused, store-refused, step-timed}
 use Rattle.group.specs.Places.{freed}
 use Rattle.group.specs.Group.{own_share}
-use Rattle.group.specs.Calls.{is_send, crowded}
+use Rattle.group.specs.Calls.{is_send}
 use Rattle.group.specs.Steps.{next_places, next_bytes}
 use Rattle.group.proofs.Parts.{own-long}
 use Rattle.sites.specs.many.Memory.{Lent}
-use Rattle.sites.specs.many.Inner.{is_hear, event_part, OneSite, around, timed_of, sent_count, own_area_of, kept_by, plain_by}
+use Rattle.sites.specs.many.Inner.{is_hear, OneSite, around, timed_of, sent_count, own_area_of, kept_by, plain_by}
 use Rattle.sites.specs.many.Inner.{short_by, taken_by}
-use Rattle.sites.specs.declared.Part.{Part}
-use Rattle.sites.specs.declared.Part.TheVariants.{Sends, Hears, Neither}
-use Rattle.sites.specs.many.Inner.{step_result_by, lent_store_by, site_by, places_by, area_by, report_by, list_answer, group_send_answer}
+use Rattle.sites.specs.many.Inner.{answer_by, day_by, tally_by, lent_store_by, site_by, places_by, area_by, report_by, list_answer, group_send_answer}
 use Rattle.sites.specs.many.Inner.{send_short, send_taken}
-use Rattle.sites.specs.many.Inner.{send_number, send_store, send_places, send_area, group_hear_answer, hear_store}
+use Rattle.sites.specs.many.Inner.{send_answer, send_store, send_places, send_area, group_hear_answer, hear_store}
 use Rattle.sites.proofs.many.Areas.{timed-by, tally-by, area-by, step-answer, step-store, step-report, kept-timed, kept-tally}
 
--- the event that a part is of; neither a send nor a hear tells which
-abbrev pub whole : Part → Event → Event
-whole (Sends j) e = Send j
-whole (Hears j p) e = Hear j p
-whole Neither e = e
-
-pub whole_is : (e : Event) → whole (event_part e) e ≡ e
-whole_is (Send j) = refl
-whole_is (Hear j p) = refl
-whole_is Close = refl
-whole_is (Take j i) = refl
-whole_is End = refl
-whole_is (Want j d) = refl
-whole_is (Crash j) = refl
-whole_is (Restart j flags) = refl
-
-abbrev is_neither : Part → Bool
-is_neither (Sends j) = false
-is_neither (Hears j p) = false
-is_neither Neither = true
-
-pub neither-is : (e : Event) → event_part e ≡ Neither → (is_send e ≡ false) × (is_hear e ≡ false)
-neither-is (Send j) h = clash (is_neither (Sends j)) (ap is_neither h) refl
-neither-is (Hear j p) h = clash (is_neither (Hears j p)) (ap is_neither h) refl
-neither-is Close h = (refl, refl)
-neither-is (Take j i) h = (refl, refl)
-neither-is End h = (refl, refl)
-neither-is (Want j d) h = (refl, refl)
-neither-is (Crash j) h = (refl, refl)
-neither-is (Restart j flags) h = (refl, refl)
+-- what is neither
+pub neither-is : (e : Event) → ((j : ℕ) → e ≡ Send j → ⊥) → ((j p : ℕ) → e ≡ Hear j p → ⊥) → (is_send e ≡ false) × (is_hear e ≡ false)
+neither-is (Send j) g h = absurd (g j refl)
+neither-is (Hear j p) g h = absurd (h j p refl)
+neither-is Close g h = (refl, refl)
+neither-is (Take j i) g h = (refl, refl)
+neither-is End g h = (refl, refl)
+neither-is (Want j d) g h = (refl, refl)
+neither-is (Crash j) g h = (refl, refl)
+neither-is (Restart j flags) g h = (refl, refl)
 
 and-true : (b : Bool) → (b && true) ≡ b
 and-true true = refl
@@ -96,32 +70,38 @@ either : {A : Type 0} (t : Bool) (y : A) → y ≡ cond t y y
 either true y = refl
 either false y = refl
 
--- what an event tells and writes
-abbrev pub DayAnswer : OneSite → Bool → Lent → Event → StepResult → List ℕ → List ℕ → List ℕ → List ℕ → List ℕ → Type 0
-DayAnswer x full v e r w b l y o =
-    (r ≡ step_result_by x full v e)
+-- what an event answers and leaves
+abbrev pub TurnIs : OneSite → Bool → Lent → Event → Answer → Day → Tally → List ℕ → List ℕ → List ℕ → List ℕ → List ℕ → Type 0
+TurnIs x full v e r n q w b l y o =
+    (r ≡ answer_by x full v e)
+    × ((n ≡ day_by x full v e)
+    × ((q ≡ tally_by x full v e)
     × ((w ≡ (lent_store_by x full v e).words)
     × ((b ≡ (lent_store_by x full v e).bytes)
-    × ((l ≡ places_by x full v e) × ((y ≡ area_by x full v e) × ((o ≡ report_by x full v e) × (site_in (store w b) ≡ site_by x full v e))))))
+    × ((l ≡ places_by x full v e)
+    × ((y ≡ area_by x full v e) × ((o ≡ report_by x full v e) × (site_in (store w b) ≡ site_by x full v e))))))))
 
 -- all that is refused leaves all as it was
-refused-turn : (x : OneSite) (full : Bool) (v : Lent) (e : Event) {n : ℕ} → taken_by x full v e ≡ false → n
-    ≡ cond (short_by x full v e) crowded (number (plain_by x v e))
-    → DayAnswer x full v e (record { code = n; day = x.day; tally = v.tally }) x.store.words x.store.bytes x.places x.area
-    v.out
-unfolding step_result_by lent_store_by site_by places_by area_by report_by
-refused-turn x full v e {n} h k =
-    let d : x.day ≡ cond (taken_by x full v e) (kept_by x v e).timed.day x.day = sym (skip _ _ _ _ h refl) in
-    let t : v.tally ≡ cond (taken_by x full v e) (kept_by x v e).tally v.tally = sym (skip _ _ _ _ h refl) in
+refused-turn : (x : OneSite) (full : Bool) (v : Lent) (e : Event) {r : Answer} → taken_by x full v e ≡ false → r
+    ≡ cond (short_by x full v e) Crowded (plain_by x v e)
+    → TurnIs x full v e r x.day v.tally x.store.words x.store.bytes x.places x.area v.out
+unfolding answer_by day_by tally_by lent_store_by site_by places_by area_by report_by
+refused-turn x full v e {r} h k =
     let s : x.store ≡ cond (taken_by x full v e)
     (step_store x.store x.day (own_area_of x) v.windows v.tally v.out e) x.store =
     sym (skip _ _ _ _ h refl) in (
-      (λ i. record { code = k i; day = d i; tally = t i }),
+      k,
       (
-        ap (λ (y : Store). y.words) s,
+        sym (skip _ _ _ _ h refl),
         (
-          ap (λ (y : Store). y.bytes) s,
-          (sym (skip _ _ _ _ h refl), (sym (skip _ _ _ _ h refl), (sym (skip _ _ _ _ h refl), sym (skip _ _ _ _ h refl)))),
+          sym (skip _ _ _ _ h refl),
+          (
+            ap (λ (y : Store). y.words) s,
+            (
+              ap (λ (y : Store). y.bytes) s,
+              (sym (skip _ _ _ _ h refl), (sym (skip _ _ _ _ h refl), (sym (skip _ _ _ _ h refl), sym (skip _ _ _ _ h refl)))),
+            ),
+          ),
         ),
       ),
     )
@@ -133,16 +113,14 @@ few-own x out h = ap (λ (b : Bool). too_short x.store || (b || report_too_short
     (le-ltb _ _ (own-long (around x) x.number (sent_count x)) ∙ sym h)
 
 -- 15
-pub room-turn : (x : OneSite) (full : Bool) (v : Lent) (e : Event) {n : ℕ} → lent_too_short x.store x.area v.out
-    ≡ true → n ≡ number NoRoom
-    → DayAnswer x full v e (record { code = n; day = x.day; tally = v.tally }) x.store.words x.store.bytes x.places x.area
-    v.out
+pub room-turn : (x : OneSite) (full : Bool) (v : Lent) (e : Event) → lent_too_short x.store x.area v.out ≡ true
+    → TurnIs x full v e NoRoom x.day v.tally x.store.words x.store.bytes x.places x.area v.out
 unfolding taken_by short_by plain_by step_answer
-room-turn x full v e {n} h k =
+room-turn x full v e h =
     refused-turn x full v e (ap (λ (a : Answer). is_done a && not (short_by x full v e)) plain)
-    (k ∙ sym (skip _ _ _ _
+    (sym (skip _ _ _ _
     (ap (λ (a : Answer). is_send e && (is_done a && (leb own_share (sent_count x) && full))) plain ∙ and-false (is_send e))
-    (ap number plain)))
+    plain))
   where
     go : (b : Bool) → ltb (length x.area) area_size ≡ b
         → cond b NoRoom (step_answer x.store x.day (own_area_of x) v.windows v.tally v.out e) ≡ NoRoom
@@ -287,14 +265,14 @@ module _ (x : OneSite) (v : Lent) (few : lent_too_short x.store x.area v.out ≡
         at_test (taken_by x full v (Send j)) _ _ _ (λ a. send-stored (and_left _ (not (short_by x full v (Send j))) a))
         ∙ ap (λ (b : Bool). cond b (sent_store s j) s) taken_is
 
-    pub send-turn : {r : ℕ} {b l y : List ℕ} → r ≡ send_number s said full j → b ≡ (send_store s said full j).bytes → l
+    pub send-turn : {r : Answer} {b l y : List ℕ} → r ≡ send_answer s said full j → b ≡ (send_store s said full j).bytes → l
         ≡ send_places s said full j x.number x.places → y ≡ send_area s said full j x.places x.area
-        → DayAnswer x full v (Send j) (record { code = r; day = d; tally = t }) s.words b l y out
-    unfolding step_result_by places_by area_by report_by send_number send_places send_area send_store sent_store
+        → TurnIs x full v (Send j) r d t s.words b l y out
+    unfolding answer_by day_by tally_by places_by area_by report_by send_answer send_places send_area send_store sent_store
     send-turn {r} {b} {l} {y} e p q m =
         let T = taken_by x full v (Send j) in
-        let c : r ≡ cond (short_by x full v (Send j)) crowded (number (plain_by x v (Send j))) = e
-        ∙ sym (ap₂ (λ (u : Bool) (a : Answer). cond u crowded (number a)) short-is send-plain) in
+        let c : r ≡ cond (short_by x full v (Send j)) Crowded (plain_by x v (Send j)) = e
+        ∙ sym (ap₂ (λ (u : Bool) (a : Answer). cond u Crowded a) short-is send-plain) in
         let n : d ≡ cond T (kept_by x v (Send j)).timed.day d =
         sym (read_same (λ (z : Day). z) T (kept_by x v (Send j)).timed.day d d (day-kept (Send j) refl) refl) in
         let u : t ≡ cond T (kept_by x v (Send j)).tally t =
@@ -305,16 +283,22 @@ module _ (x : OneSite) (v : Lent) (few : lent_too_short x.store x.area v.out ≡
         sym (read_same (λ (z : Store). z.words) (send_taken s said full j) (sent_store s j) s s.words refl refl) in
         let ww : s.words ≡ (lent_store_by x full v (Send j)).words = w ∙ ap (λ (z : Store). z.words) (sym store_is) in
         let bb : b ≡ (lent_store_by x full v (Send j)).bytes = p ∙ ap (λ (z : Store). z.bytes) (sym store_is) in (
-          (λ i. record { code = c i; day = n i; tally = u i }),
+          c,
           (
-            ww,
+            n,
             (
-              bb,
+              u,
               (
-                q ∙ sym (ap (λ (b : Bool). cond b (next_places x.places x.number (sent_count x) (Send j)) x.places) taken_is),
+                ww,
                 (
-                  m ∙ sym (ap (λ (b : Bool). cond b (next_bytes (around x) (timed_of x) (Send j)) x.area) taken_is),
-                  (o, (λ i. site_in (store (ww i) (bb i))) ∙ site-by (Send j) refl full),
+                  bb,
+                  (
+                    q ∙ sym (ap (λ (b : Bool). cond b (next_places x.places x.number (sent_count x) (Send j)) x.places) taken_is),
+                    (
+                      m ∙ sym (ap (λ (b : Bool). cond b (next_bytes (around x) (timed_of x) (Send j)) x.area) taken_is),
+                      (o, (λ i. site_in (store (ww i) (bb i))) ∙ site-by (Send j) refl full),
+                    ),
+                  ),
                 ),
               ),
             ),
@@ -340,31 +324,31 @@ module _ (x : OneSite) (v : Lent) (few : lent_too_short x.store x.area v.out ≡
         go false z = sym (ap f (refused-kept e (sym taken-done ∙ z)))
 
     -- from what the machine makes of the site with an area of its own
-    pub plain-turn-by : {r : StepResult} {w b l y o : List ℕ} → r
-        ≡ record { code = number (plain_by x v e); day = (kept_by x v e).timed.day; tally = (kept_by x v e).tally } → store w b
-        ≡ step_store s d own ws t out e
+    pub plain-turn-by : {r : Answer} {n : Day} {q : Tally} {w b l y o : List ℕ} → r ≡ plain_by x v e → n ≡ (kept_by x v e).timed.day
+        → q ≡ (kept_by x v e).tally → store w b ≡ step_store s d own ws t out e
         → l ≡ cond (is_done (plain_by x v e)) (next_places x.places x.number (sent_count x) e) x.places → y
         ≡ cond (is_done (plain_by x v e)) (next_bytes (around x) (timed_of x) e) x.area
-        → o ≡ step_report s d own ws t out e → site_in (store w b) ≡ (kept_by x v e).timed.site → DayAnswer x full v e r w b l y o
-    unfolding step_result_by lent_store_by site_by places_by area_by report_by step_report
-    plain-turn-by {r} {w} {b} {l} {y} {o} p m u z q f =
+        → o ≡ step_report s d own ws t out e → site_in (store w b) ≡ (kept_by x v e).timed.site → TurnIs x full v e r n q w b l y o
+    unfolding answer_by day_by tally_by lent_store_by site_by places_by area_by report_by step_report
+    plain-turn-by {r} {n} {q} {w} {b} {l} {y} {o} p i k m u z g f =
         let T = taken_by x full v e in
-        let c : number (plain_by x v e) ≡ cond (short_by x full v e) crowded (number (plain_by x v e)) = sym (skip _ _ _ _ never-short refl) in
-        let n : store w b ≡ cond T (step_store s d own ws t out e) s = m ∙ sym (store_by T refl) in (
-          p ∙ (λ i. record {
-            code = c i;
-            day = sym (kept_by_lem (λ (k : Kept). k.timed.day)) i;
-            tally = sym (kept_by_lem (λ (k : Kept). k.tally)) i;
-          }),
+        let st : store w b ≡ cond T (step_store s d own ws t out e) s = m ∙ sym (store_by T refl) in (
+          p ∙ sym (skip _ _ _ _ never-short refl),
           (
-            ap (λ (z : Store). z.words) n,
+            i ∙ sym (kept_by_lem (λ (k : Kept). k.timed.day)),
             (
-              ap (λ (z : Store). z.bytes) n,
+              k ∙ sym (kept_by_lem (λ (k : Kept). k.tally)),
               (
-                u ∙ sym (ap (λ (b : Bool). cond b (next_places x.places x.number (sent_count x) e) x.places) taken-done),
+                ap (λ (z : Store). z.words) st,
                 (
-                  z ∙ sym (ap (λ (b : Bool). cond b (next_bytes (around x) (timed_of x) e) x.area) taken-done),
-                  (q ∙ sym (report-by T refl), f ∙ sym (kept_by_lem (λ (k : Kept). k.timed.site))),
+                  ap (λ (z : Store). z.bytes) st,
+                  (
+                    u ∙ sym (ap (λ (b : Bool). cond b (next_places x.places x.number (sent_count x) e) x.places) taken-done),
+                    (
+                      z ∙ sym (ap (λ (b : Bool). cond b (next_bytes (around x) (timed_of x) e) x.area) taken-done),
+                      (g ∙ sym (report-by T refl), f ∙ sym (kept_by_lem (λ (k : Kept). k.timed.site))),
+                    ),
+                  ),
                 ),
               ),
             ),
@@ -383,9 +367,9 @@ module _ (x : OneSite) (v : Lent) (few : lent_too_short x.store x.area v.out ≡
         report-by false z = sym (skip _ _ _ _ (refuses z) refl)
 
   -- a hear
-  pub hear-turn : (full : Bool) (j p : ℕ) {r : ℕ} {w b : List ℕ} → r ≡ number (group_hear_answer s own (list_answer s d ws) j p) → w
+  pub hear-turn : (full : Bool) (j p : ℕ) {r : Answer} {w b : List ℕ} → r ≡ group_hear_answer s own (list_answer s d ws) j p → w
       ≡ (hear_store s own (list_answer s d ws) j p).words → b ≡ (hear_store s own (list_answer s d ws) j p).bytes
-      → DayAnswer x full v (Hear j p) (record { code = r; day = d; tally = t }) w b x.places x.area out
+      → TurnIs x full v (Hear j p) r d t w b x.places x.area out
   unfolding hear_store store_after answer_of
   hear-turn full j p {r} {w} {b} e u z =
       let own-hear : answer_of (site_in s) own (Hear j p) ≡ site_hear (site_in s) own j p = skip _ _ _ _ (le-ltb _ _ own_room) refl in
@@ -394,8 +378,7 @@ module _ (x : OneSite) (v : Lent) (few : lent_too_short x.store x.area v.out ≡
       let m : store w b ≡ hear_store s own (list_answer s d ws) j p = λ i. record { words = u i; bytes = z i } in
       let n : hear_store s own (list_answer s d ws) j p ≡ step_store s d own ws t out (Hear j p) =
       go a own-hear (is_done (plain_by x v (Hear j p))) refl in
-      plain-turn-by full (Hear j p) refl
-      (λ i. record { code = (e ∙ ap number (sym a)) i; day = sym (day-kept (Hear j p) refl) i; tally = sym (tally-kept (Hear j p) refl) i })
+      plain-turn-by full (Hear j p) refl (e ∙ sym a) (sym (day-kept (Hear j p) refl)) (sym (tally-kept (Hear j p) refl))
       (m ∙ n)
       (either (is_done (plain_by x v (Hear j p))) x.places)
       (either (is_done (plain_by x v (Hear j p))) x.area)
@@ -450,47 +433,49 @@ module _ (x : OneSite) (v : Lent) (few : lent_too_short x.store x.area v.out ≡
         go (Crash j) h t = either t _
         go (Restart j flags) h t = either t _
 
-    pub other-turn : {r : StepResult} {w b l y o : List ℕ} {gone : Bool} → r ≡ step_result s d x.area ws t out e
+    pub other-turn : {r : Answer} {c : Day} {i : Tally} {w b l y o : List ℕ} → r ≡ step_answer s d x.area ws t out e
         → w ≡ (step_store s d x.area ws t out e).words → b ≡ (step_store s d x.area ws t out e).bytes → o
         ≡ step_report s d x.area ws t out e
-        → kept_in (store w b) r.day y r.tally ≡ step_kept s d x.area ws t out e
-        → gone ≡ (is_close e && is_done (step_answer s d x.area ws t out e)) → l ≡ cond gone (freed x.number x.places) x.places
-        → DayAnswer x full v e r w b l y o
-    other-turn {r} {w} {b} {l} {y} {o} {gone} p q m n k g f =
+        → kept_in (store w b) c y i ≡ step_kept s d x.area ws t out e
+        → l ≡ cond (is_close e && is_done r) (freed x.number x.places) x.places
+        → TurnIs x full v e r c i w b l y o
+    other-turn {r} {c} {i} {w} {b} {l} {y} {o} p q m n k f =
         let a : step_answer s d x.area ws t out e ≡ plain_by x v e = step-answer x.area own room own_room ws e no-hear s d t out
         ∙ sym (plain-is e) in
         let time = kept-timed x.area own room own_room ws e no-hear s d t out in
         let count = kept-tally x.area own room own_room ws e no-hear s d t out in
         let st : store w b ≡ step_store s d own ws t out e = (λ i. record { words = q i; bytes = m i })
         ∙ step-store x.area own room own_room ws e no-hear s d t out in
-        let ll = f ∙ ap (λ (u : Bool). cond u (freed x.number x.places) x.places)
-        (g ∙ ap (λ (u : Answer). is_close e && is_done u) a) ∙ places-kept (is_done (plain_by x v e)) in
+        let ll = f ∙ ap (λ (u : Answer). cond (is_close e && is_done u) (freed x.number x.places) x.places) (p ∙ a)
+        ∙ places-kept (is_done (plain_by x v e)) in
         let yy = ap (λ (z : Kept). z.area) k ∙ area-by s d x.area ws t out e no-send ∙ area_same (is_done (plain_by x v e)) in
-        plain-turn-by full e no-send
-        (p ∙ (λ i. record { code = number (a i); day = (time i).day; tally = count i }))
+        plain-turn-by full e no-send (p ∙ a)
+        (ap (λ (z : Kept). z.timed.day) k ∙ ap (λ (z : Timed). z.day) time)
+        (ap (λ (z : Kept). z.tally) k ∙ count)
         st ll yy
         (n ∙ step-report x.area own room own_room ws e no-hear s d t out)
         (ap (λ (z : Kept). z.timed.site) k ∙ ap (λ (z : Timed). z.site) time)
 
 -- what is no send does not look at the common places
-pub unfull : (x : OneSite) (v : Lent) (full : Bool) (e : Event) → is_send e ≡ false → {r : StepResult} {w b l y o : List ℕ}
-    → DayAnswer x false v e r w b l y o → DayAnswer x full v e r w b l y o
-unfolding step_result_by lent_store_by site_by places_by area_by report_by taken_by short_by
-unfull x v full e h {r} {w} {b} {l} {y} {o} z =
-    subst (λ (s : Bool). (r ≡ told s)
-    × ((w ≡ (st s).words) × ((b ≡ (st s).bytes) × ((l ≡ pl s) × ((y ≡ ar s) × ((o ≡ re s) × (site_in (store w b) ≡ si s))))))) q z
+pub unfull : (x : OneSite) (v : Lent) (full : Bool) (e : Event) → is_send e ≡ false → {r : Answer} {n : Day} {k : Tally} {w b l y o : List ℕ}
+    → TurnIs x false v e r n k w b l y o → TurnIs x full v e r n k w b l y o
+unfolding answer_by day_by tally_by lent_store_by site_by places_by area_by report_by taken_by short_by
+unfull x v full e h {r} {n} {k} {w} {b} {l} {y} {o} z =
+    subst (λ (s : Bool). (r ≡ cond s Crowded (plain_by x v e))
+    × ((n ≡ da s)
+    × ((k ≡ ta s)
+    × ((w ≡ (st s).words)
+    × ((b ≡ (st s).bytes) × ((l ≡ pl s) × ((y ≡ ar s) × ((o ≡ re s) × (site_in (store w b) ≡ si s))))))))) q z
   where
     q : short_by x false v e ≡ short_by x full v e
     q = ap (λ (b : Bool). b && (is_done (plain_by x v e) && (leb own_share (sent_count x) && false))) h
         ∙ sym (ap (λ (b : Bool). b && (is_done (plain_by x v e) && (leb own_share (sent_count x) && full))) h)
 
-    told : Bool → StepResult
-    told s =
-        record {
-          code = cond s crowded (number (plain_by x v e));
-          day = cond (is_done (plain_by x v e) && not s) (kept_by x v e).timed.day x.day;
-          tally = cond (is_done (plain_by x v e) && not s) (kept_by x v e).tally v.tally;
-        }
+    da : Bool → Day
+    da s = cond (is_done (plain_by x v e) && not s) (kept_by x v e).timed.day x.day
+
+    ta : Bool → Tally
+    ta s = cond (is_done (plain_by x v e) && not s) (kept_by x v e).tally v.tally
 
     st : Bool → Store
     st s = cond (is_done (plain_by x v e) && not s)

@@ -5,7 +5,7 @@ use mathlib.Core.Bool.{Bool, true, false, not, cond, ◌&&◌}
 use mathlib.Core.List.{List, map}
 use Prim.Native.Nat.{ℕ, ◌-◌, ◌*◌, ◌<◌}
 use native.Mathlib.Omega.{arith}
-use lib.Dec.{eqb, ltb, leb}
+use lib.Dec.{ltb, leb}
 use lib.ListN.{length, set}
 use lib.Seq.{length-take-le}
 use Rattle.words.proofs.Tests.{never, hit, skip, read_same, both, and_left, and_right}
@@ -13,8 +13,8 @@ use Rattle.lists.specs.All.{tab}
 use Rattle.lists.proofs.Laws.{get_d-tab}
 use Rattle.allotment.specs.Allotment.{total}
 use Rattle.node.specs.Answers.{is_done, number}
-use Rattle.node.specs.declared.Answer.{Answer}
-use Rattle.node.specs.declared.Answer.TheVariants.{Done, NoSuchNode, NoRoom, Crowded}
+use Rattle.node.specs.Answers.{Answer}
+use Rattle.node.specs.Answers.{Done, NoSuchNode, NoRoom, Crowded}
 use Rattle.node.proofs.Answers.{done-is}
 use Rattle.site.specs.Answers.{area_size}
 use Rattle.node.specs.declared.Config.{Config}
@@ -30,11 +30,11 @@ use Rattle.machine.proofs.timed.Stored.{as-begun}
 use Rattle.machine.specs.combined.Kept.{first_refusal}
 use Rattle.machine.specs.combined.Stored.{step_answer, step_accepted, step_store, step_report, step_kept}
 use Rattle.machine.proofs.combined.Laws.{step-accepts, step-timed}
-use Rattle.sites.specs.declared.Tallied.{Tallied}
+use Rattle.tally.specs.declared.Tally.{Tally}
 use Rattle.group.specs.Places.{top_places, freed}
 use Rattle.group.specs.Group.{SiteSlot, Empty, Taken, Group, is_number, site_slot_of, packets_in, own_share, common_share, beyond, common}
 use Rattle.group.specs.Group.{own_area}
-use Rattle.group.specs.Calls.{GroupCall, LoadSite, is_send, site_slot_answer, plain_answer, is_crowded, crowded, answer_to}
+use Rattle.group.specs.Calls.{GroupCall, LoadSite, is_send, site_slot_answer, plain_answer, is_crowded, answer_to}
 use Rattle.group.specs.Calls as group
 use Rattle.group.specs.Steps.{next_places, next_bytes, next_by, next_group, after_group}
 use Rattle.group.proofs.Ground.{number_is}
@@ -46,8 +46,8 @@ use Rattle.sites.specs.many.Calls.{group_load_answer, loaded_memory, after_load,
 use Rattle.sites.specs.many.Calls.{group_event_answer}
 use Rattle.sites.specs.many.Calls.{is_heeded, own_kept, next_memory, after_event, group_area_after, group_tally_after, report_after}
 use Rattle.sites.specs.many.Calls.{group_after}
-use Rattle.sites.specs.many.Calls.{group_event_tallied}
-use Rattle.sites.specs.many.Inner.{OneSite, around, timed_of, sent_count, own_area_of, kept_by, plain_by, short_by, taken_by, step_result_by}
+use Rattle.sites.specs.many.Inner.{OneSite, around, timed_of, sent_count, own_area_of, kept_by, plain_by, short_by, taken_by, answer_by}
+use Rattle.sites.specs.many.Inner.{day_by, tally_by}
 use Rattle.sites.specs.many.Inner.{lent_store_by, site_by}
 use Rattle.sites.specs.many.Inner.{places_by, area_by, report_by, common_in, common_full, lone_in, memory_by, loaded_by, Sized}
 use Rattle.sites.proofs.many.Lists.{length-span, span-again}
@@ -70,40 +70,43 @@ and-false true = refl
 and-false false = refl
 
 -- what an event answers, writes and stands for
-abbrev pub EventIs : Memory → List ℕ → ℕ → Lent → Event → Tallied → List ℕ → List ℕ → List ℕ → List ℕ → List ℕ → Type 0
-EventIs m area a v e r w b t y o =
-    (r ≡ group_event_tallied m area a v e)
+abbrev pub EventIs : Memory → List ℕ → ℕ → Lent → Event → Answer → Tally → List ℕ → List ℕ → List ℕ → List ℕ → List ℕ → Type 0
+EventIs m area a v e r q w b t y o =
+    (r ≡ group_event_answer m area a v e)
     × ((w ≡ (after_event m area a v e).words)
     × ((b ≡ (after_event m area a v e).bytes)
     × ((t ≡ (after_event m area a v e).table)
-    × ((y ≡ group_area_after m area a v e) × ((o ≡ report_after m area a v e) × (group_in (memory w b t) y ≡ group_after m area a v e))))))
+    × ((y ≡ group_area_after m area a v e)
+    × ((o ≡ report_after m area a v e)
+    × ((group_in (memory w b t) y ≡ group_after m area a v e) × (q ≡ group_tally_after m area a v e)))))))
 
 -- a refused event leaves all as it was
-pub not-heeded : (m : Memory) (area : List ℕ) (a : ℕ) (v : Lent) (e : Event) {n : ℕ} → is_heeded m area a v e ≡ false → n
-    ≡ number (group_event_answer m area a v e)
-    → EventIs m area a v e (record { code = n; tally = v.tally }) m.words m.bytes m.table area v.out
+pub not-heeded : (m : Memory) (area : List ℕ) (a : ℕ) (v : Lent) (e : Event) {r : Answer} → is_heeded m area a v e ≡ false → r
+    ≡ group_event_answer m area a v e → EventIs m area a v e r v.tally m.words m.bytes m.table area v.out
 unfolding after_event group_area_after group_tally_after report_after group_after
-not-heeded m area a v e {n} h k =
-    let q : m ≡ after_event m area a v e = sym (skip _ _ _ _ h refl) in
-    let t : v.tally ≡ group_tally_after m area a v e = sym (skip _ _ _ _ h refl) in (
-      (λ i. record { code = k i; tally = t i }),
+not-heeded m area a v e {r} h k =
+    let q : m ≡ after_event m area a v e = sym (skip _ _ _ _ h refl) in (
+      k,
       (
         ap (λ (x : Memory). x.words) q,
         (
           ap (λ (x : Memory). x.bytes) q,
-          (ap (λ (x : Memory). x.table) q, (sym (skip _ _ _ _ h refl), (sym (skip _ _ _ _ h refl), sym (skip _ _ _ _ h refl)))),
+          (
+            ap (λ (x : Memory). x.table) q,
+            (sym (skip _ _ _ _ h refl), (sym (skip _ _ _ _ h refl), (sym (skip _ _ _ _ h refl), sym (skip _ _ _ _ h refl)))),
+          ),
         ),
       ),
     )
 
 -- a number at which nothing is loaded
-pub not-loaded : (m : Memory) (area : List ℕ) (a : ℕ) (v : Lent) (e : Event) {n : ℕ} → is_done (loaded_answer m a) ≡ false → n
-    ≡ number (loaded_answer m a)
-    → EventIs m area a v e (record { code = n; tally = v.tally }) m.words m.bytes m.table area v.out
+pub not-loaded : (m : Memory) (area : List ℕ) (a : ℕ) (v : Lent) (e : Event) {r : Answer} → is_done r ≡ false → r ≡ loaded_answer m a
+    → EventIs m area a v e r v.tally m.words m.bytes m.table area v.out
 unfolding group_event_answer
 not-loaded m area a v e h k =
-    let q : group_event_answer m area a v e ≡ loaded_answer m a = skip _ _ _ _ h refl in
-    not-heeded m area a v e (ap is_done q ∙ h) (k ∙ ap number (sym q))
+    let d : is_done (loaded_answer m a) ≡ false = ap is_done (sym k) ∙ h in
+    let q : group_event_answer m area a v e ≡ loaded_answer m a = skip _ _ _ _ d refl in
+    not-heeded m area a v e (ap is_done q ∙ d) (k ∙ sym q)
 
 pub loaded-here : (m : Memory) (a : ℕ) → is_done (loaded_answer m a) ≡ true → is_loaded m a ≡ true
 unfolding loaded_answer
@@ -221,40 +224,35 @@ module _ (m : Memory) (area : List ℕ) (a : ℕ) (v : Lent) (e : Event) (h : is
   own-answer = ap (λ (o : List ℕ). cond (ltb (length area) area_size) NoRoom
       (step_answer x.store x.day o v.windows v.tally v.out e)) own_in
 
-  answer-is : number (group_event_answer m area a v e) ≡ (step_result_by x full v e).code
-  unfolding group_event_answer loaded_answer step_result_by
+  answer-is : group_event_answer m area a v e ≡ answer_by x full v e
+  unfolding group_event_answer loaded_answer answer_by
   answer-is =
-      ap number (ap (λ (b : Bool). first_refusal (cond b Done (cond (is_number a && group_too_short m) NoRoom NoSuchNode)) last) h)
-      ∙ ap₂ (λ (z : Answer) (g : Group). number (first_refusal z (cond (is_crowded g c) Crowded Done))) own-answer whole
+      ap (λ (b : Bool). first_refusal (cond b Done (cond (is_number a && group_too_short m) NoRoom NoSuchNode)) last) h
+      ∙ ap₂ (λ (z : Answer) (g : Group). first_refusal z (cond (is_crowded g c) Crowded Done)) own-answer whole
       ∙ go (is_done (plain_by x v e)) refl
     where
       last : Answer
       last = first_refusal (site_step_answer m area a v e) (cond (is_crowded (group_in m area) c) Crowded Done)
 
-      numbers : (b : Bool) → number (cond b Crowded Done) ≡ cond b crowded 0
-      numbers true = refl
-      numbers false = refl
-
-      go : (b : Bool) → is_done (plain_by x v e) ≡ b → number (first_refusal (plain_by x v e) (cond (is_crowded G c) Crowded Done))
-          ≡ cond (short_by x full v e) crowded (number (plain_by x v e))
+      go : (b : Bool) → is_done (plain_by x v e) ≡ b → first_refusal (plain_by x v e) (cond (is_crowded G c) Crowded Done)
+          ≡ cond (short_by x full v e) Crowded (plain_by x v e)
       go true d =
-          ap number (hit _ _ _ d)
-          ∙ ap (λ (b : Bool). number (cond b Crowded Done)) (crowd-is d)
-          ∙ numbers (short_by x full v e)
-          ∙ ap (λ (n : ℕ). cond (short_by x full v e) crowded n) (sym (ap number (done-is (plain_by x v e) d)))
-      go false d = ap number (skip (is_done (plain_by x v e)) _ _ _ d refl) ∙ sym (skip _ _ _ _ (no-crowd d) refl)
+          hit _ _ _ d
+          ∙ ap (λ (b : Bool). cond b Crowded Done) (crowd-is d)
+          ∙ ap (cond (short_by x full v e) Crowded) (sym (done-is (plain_by x v e) d))
+      go false d = skip (is_done (plain_by x v e)) _ _ _ d refl ∙ sym (skip _ _ _ _ (no-crowd d) refl)
 
   taken-plain : taken_by x full v e ≡ true → is_done (plain_by x v e) ≡ true
   unfolding taken_by
   taken-plain k = and_left (is_done (plain_by x v e)) (not (short_by x full v e)) k
 
   heed-is : is_heeded m area a v e ≡ taken_by x full v e
-  unfolding step_result_by taken_by
-  heed-is = ap (λ (n : ℕ). eqb n 0) answer-is ∙ go (short_by x full v e) (number (plain_by x v e))
+  unfolding answer_by taken_by
+  heed-is = ap is_done answer-is ∙ go (short_by x full v e) (plain_by x v e)
     where
-      go : (b : Bool) (n : ℕ) → eqb (cond b crowded n) 0 ≡ (eqb n 0 && not b)
-      go true n = sym (and-false (eqb n 0))
-      go false n = sym (and-true (eqb n 0))
+      go : (b : Bool) (z : Answer) → is_done (cond b Crowded z) ≡ (is_done z && not b)
+      go true z = sym (and-false (is_done z))
+      go false z = sym (and-true (is_done z))
 
   bytes-is : next_bytes G (timed_of x) e ≡ next_bytes (around x) (timed_of x) e
   bytes-is = go e
@@ -286,11 +284,11 @@ module _ (m : Memory) (area : List ℕ) (a : ℕ) (v : Lent) (e : Event) (h : is
   -- a refused event leaves all as it was
   module _ (no : taken_by x full v e ≡ false) where
     memory_kept : memory_by m area i a v e ≡ m
-    unfolding memory_by lent_store_by places_by step_result_by
+    unfolding memory_by lent_store_by places_by day_by
     memory_kept =
         let s : lent_store_by x full v e ≡ store_at m i = skip _ _ _ _ no refl in
         let p : places_by x full v e ≡ places_in m.table = skip _ _ _ _ no refl in
-        let d : (step_result_by x full v e).day ≡ day_at m.table i = skip _ _ _ _ no refl in
+        let d : day_by x full v e ≡ day_at m.table i = skip _ _ _ _ no refl in
         (λ k. memory (store_words m i (s k)) (store_bytes m i (s k)) (table_with m.table (p k) i (d k)))
         ∙ same-again m (loaded-lengths m a h) i (low m a h) (taken_here m a h)
 
@@ -299,7 +297,7 @@ module _ (m : Memory) (area : List ℕ) (a : ℕ) (v : Lent) (e : Event) (h : is
     area-kept = skip _ _ _ _ no refl
 
   memory-is : memory_by m area i a v e ≡ after_event m area a v e
-  unfolding after_event memory_by lent_store_by places_by step_result_by
+  unfolding after_event memory_by lent_store_by places_by day_by
   memory-is = go (taken_by x full v e) refl
     where
       go : (t : Bool) → taken_by x full v e ≡ t → memory_by m area i a v e ≡ cond (is_heeded m area a v e) (next_memory m area a v e) m
@@ -309,7 +307,7 @@ module _ (m : Memory) (area : List ℕ) (a : ℕ) (v : Lent) (e : Event) (h : is
           hit _ _ _ k ∙ ap (λ (o : List ℕ). step_store (store_at m i) (day_at m.table i) o v.windows v.tally v.out e) (sym own_in)
           in
           let p : places_by x full v e ≡ next_places (places_in m.table) a (sent_count x) e = hit _ _ _ k in
-          let d : (step_result_by x full v e).day ≡ (own_kept m area a v e).timed.day =
+          let d : day_by x full v e ≡ (own_kept m area a v e).timed.day =
           hit _ _ _ k ∙ ap (λ (o : List ℕ). (step_kept (store_at m i) (day_at m.table i) o v.windows v.tally v.out e).timed.day)
           (sym own_in) in
           (λ j. memory (store_words m i (s j)) (store_bytes m i (s j)) (table_with m.table (p j) i (d j))) ∙ sym (hit _ _ _ (heed-is ∙ k))
@@ -319,8 +317,8 @@ module _ (m : Memory) (area : List ℕ) (a : ℕ) (v : Lent) (e : Event) (h : is
   unfolding area_by group_area_after
   area-is = λ k. cond (sym heed-is k) (sym (ap (λ (g : Group). next_bytes g (timed_of x) e) whole ∙ bytes-is) k) area
 
-  tally-is : (step_result_by x full v e).tally ≡ group_tally_after m area a v e
-  unfolding step_result_by group_tally_after
+  tally-is : tally_by x full v e ≡ group_tally_after m area a v e
+  unfolding tally_by group_tally_after
   tally-is = λ k. cond (sym heed-is k)
       (step_kept (store_at m i) (day_at m.table i) (sym own_in k) v.windows v.tally v.out e).tally v.tally
 
@@ -332,7 +330,7 @@ module _ (m : Memory) (area : List ℕ) (a : ℕ) (v : Lent) (e : Event) (h : is
   module _ (sized : Sized (lent_store_by x full v e)) (placed : length (places_by x full v e) ≡ top_places)
       (stands : site_in (lent_store_by x full v e) ≡ site_by x full v e) where
     after_is : group_in (memory_by m area i a v e) (area_by x full v e) ≡ cond (is_heeded m area a v e) (after_group G c) G
-    unfolding memory_by after_group site_by places_by area_by step_result_by
+    unfolding memory_by after_group site_by places_by area_by day_by
     after_is = go (taken_by x full v e) refl
       where
         go : (t : Bool) → taken_by x full v e ≡ t → group_in (memory_by m area i a v e) (area_by x full v e)
@@ -341,12 +339,12 @@ module _ (m : Memory) (area : List ℕ) (a : ℕ) (v : Lent) (e : Event) (h : is
             let time : (kept_by x v e).timed ≡ timed_after (timed_of x) (own_area_of x) v.windows e =
             step-timed x.store x.day (own_area_of x) v.windows v.tally v.out e (own-done (taken-plain k)).1 in
             let s = stands ∙ hit _ _ _ k ∙ ap (λ (z : Timed). z.site) time in
-            let d : (step_result_by x full v e).day ≡ (timed_after (timed_of x) (own_area_of x) v.windows e).day = hit _ _ _ k
+            let d : day_by x full v e ≡ (timed_after (timed_of x) (own_area_of x) v.windows e).day = hit _ _ _ k
             ∙ ap (λ (z : Timed). z.day) time in
             let p : places_by x full v e ≡ next_places (places_in m.table) a (sent_count x) e = hit _ _ _ k in
             let y : area_by x full v e ≡ next_bytes (around x) (timed_of x) e = hit _ _ _ k in
             group-then m (loaded-lengths m a h) i (low m a h) (lent_store_by x full v e) sized (places_by x full v e) placed
-            (step_result_by x full v e).day (area_by x full v e)
+            (day_by x full v e) (area_by x full v e)
             ∙ (λ j. record {
               site_slots = set (tab 8 (site_slot_in m)) i (Taken (record { site = s j; day = d j }));
               places = p j;
@@ -356,16 +354,15 @@ module _ (m : Memory) (area : List ℕ) (a : ℕ) (v : Lent) (e : Event) (h : is
             ∙ sym (hit _ _ _ (heed-is ∙ k))
         go false k = ap₂ group_in (memory_kept k) (area-kept k) ∙ whole ∙ sym (skip _ _ _ _ (heed-is ∙ k) refl)
 
-    pub loaded-event : {r : Tallied} {w b t y o : List ℕ} → r
-        ≡ record { code = (step_result_by x full v e).code; tally = (step_result_by x full v e).tally }
+    pub loaded-event : {r : Answer} {q : Tally} {w b t y o : List ℕ} → r ≡ answer_by x full v e → q ≡ tally_by x full v e
         → w ≡ (memory_by m area i a v e).words → b ≡ (memory_by m area i a v e).bytes → t ≡ (memory_by m area i a v e).table → y
         ≡ area_by x full v e
-        → o ≡ report_by x full v e → EventIs m area a v e r w b t y o
+        → o ≡ report_by x full v e → EventIs m area a v e r q w b t y o
     unfolding group_after
-    loaded-event {r} {w} {b} {t} {y} {o} p q u n z f =
-        let l : memory w b t ≡ memory_by m area i a v e = λ k. record { words = q k; bytes = u k; table = n k } in
+    loaded-event {r} {q} {w} {b} {t} {y} {o} p k d u n z f =
+        let l : memory w b t ≡ memory_by m area i a v e = λ k. record { words = d k; bytes = u k; table = n k } in
         let g = l ∙ memory-is in (
-          p ∙ (λ k. record { code = sym answer-is k; tally = tally-is k }),
+          p ∙ sym answer-is,
           (
             ap (λ (l : Memory). l.words) g,
             (
@@ -376,8 +373,11 @@ module _ (m : Memory) (area : List ℕ) (a : ℕ) (v : Lent) (e : Event) (h : is
                   z ∙ area-is,
                   (
                     f ∙ report-is,
-                    ap₂ group_in l z ∙ after_is
-                        ∙ sym (ap (λ (g : Group). cond (is_heeded m area a v e) (after_group g c) g) whole),
+                    (
+                      ap₂ group_in l z ∙ after_is
+                          ∙ sym (ap (λ (g : Group). cond (is_heeded m area a v e) (after_group g c) g) whole),
+                      k ∙ tally-is,
+                    ),
                   ),
                 ),
               ),
@@ -393,20 +393,20 @@ load-answers m area a f t D ws h = ap (λ (x : Answer). number (cond (is_number 
 
 -- what a load answers, writes and stands for
 module _ (m : Memory) (a : ℕ) (f : Config) (t : Table) (D : ℕ) (ws : List Window) where
-  abbrev pub LoadIs : ℕ → List ℕ → List ℕ → List ℕ → Type 0
+  abbrev pub LoadIs : Answer → List ℕ → List ℕ → List ℕ → Type 0
   LoadIs r w b l =
-      (r ≡ number (group_load_answer m a f t D ws))
+      (r ≡ group_load_answer m a f t D ws)
       × ((w ≡ (after_load m a f t D ws).words)
       × ((b ≡ (after_load m a f t D ws).bytes)
       × ((l ≡ (after_load m a f t D ws).table) × ((area : List ℕ) → group_in (memory w b l) area ≡ group_loaded m area a f t D ws))))
 
   -- nothing is written
-  kept-load : {r : ℕ} (x : Answer) → group_load_answer m a f t D ws ≡ x → is_done x ≡ false → r ≡ number x
+  kept-load : {r : Answer} (x : Answer) → group_load_answer m a f t D ws ≡ x → is_done x ≡ false → r ≡ x
       → ((area : List ℕ) → group_in m area ≡ group_loaded m area a f t D ws) → LoadIs r m.words m.bytes m.table
   unfolding after_load
   kept-load x e d k g =
       let q : m ≡ after_load m a f t D ws = sym (skip _ _ _ _ (ap is_done e ∙ d) refl) in
-      (k ∙ sym (ap number e), (ap (λ (l : Memory). l.words) q, (ap (λ (l : Memory). l.bytes) q, (ap (λ (l : Memory). l.table) q, g))))
+      (k ∙ sym e, (ap (λ (l : Memory). l.words) q, (ap (λ (l : Memory). l.bytes) q, (ap (λ (l : Memory). l.table) q, g))))
 
   refused-group : (area : List ℕ) → is_done (cond (is_number a) (timed_load_answer f t D ws) NoSuchNode) ≡ false → group_in m area
       ≡ group_loaded m area a f t D ws
@@ -417,11 +417,11 @@ module _ (m : Memory) (a : ℕ) (f : Config) (t : Table) (D : ℕ) (ws : List Wi
       (cond (group.group_accepts g (LoadSite a f t D ws)) (next_group g (LoadSite a f t D ws)) g)
       g refl (skip _ _ _ _ (ap (λ (b : Bool). b && true) d) refl))
 
-  pub no_number : {r : ℕ} → is_number a ≡ false → r ≡ number NoSuchNode → LoadIs r m.words m.bytes m.table
+  pub no_number : {r : Answer} → is_number a ≡ false → r ≡ NoSuchNode → LoadIs r m.words m.bytes m.table
   unfolding group_load_answer
   no_number n k = kept-load NoSuchNode (skip _ _ _ _ n refl) refl k (λ area. refused-group area (ap is_done (skip _ _ _ _ n refl)))
 
-  pub no_room : {r : ℕ} → is_number a ≡ true → group_too_short m ≡ true → r ≡ number NoRoom → LoadIs r m.words m.bytes m.table
+  pub no_room : {r : Answer} → is_number a ≡ true → group_too_short m ≡ true → r ≡ NoRoom → LoadIs r m.words m.bytes m.table
   unfolding group_load_answer group_loaded
   no_room n h k = kept-load NoRoom (hit _ _ _ n ∙ hit _ _ _ h) refl k (λ area. sym (hit _ _ _ h))
 
@@ -449,7 +449,7 @@ module _ (m : Memory) (a : ℕ) (f : Config) (t : Table) (D : ℕ) (ws : List Wi
     abbrev S : Store
     S = timed_loaded_store (store_at m at) f t D ws
 
-    pub any-load : {r : ℕ} {w b l : List ℕ} → r ≡ number (stored_load_answer (store_at m at) f t D ws) → w ≡ (loaded_by m at a f t D ws).words
+    pub any-load : {r : Answer} {w b l : List ℕ} → r ≡ stored_load_answer (store_at m at) f t D ws → w ≡ (loaded_by m at a f t D ws).words
         → b ≡ (loaded_by m at a f t D ws).bytes → l ≡ (loaded_by m at a f t D ws).table
         → Sized (timed_loaded_store (store_at m at) f t D ws) → site_in (timed_loaded_store (store_at m at) f t D ws)
         ≡ timed_loaded_site (store_at m at) f t D ws → LoadIs r w b l
@@ -470,7 +470,7 @@ module _ (m : Memory) (a : ℕ) (f : Config) (t : Table) (D : ℕ) (ws : List Wi
             ∙ length-take-le top_places m.table (omega (arith, long-memory.table)) in
             let timed : timed_in S (first_epoch D) ≡ loaded_timed f t D ws = as-begun (store_at m at) S f t D ws (first_epoch D) done refl stands
             in (
-              p ∙ ap number (stored-plain ∙ sym answer-plain),
+              p ∙ stored-plain ∙ sym answer-plain,
               (
                 ap (λ (x : Memory). x.words) (o ∙ after),
                 (
@@ -500,7 +500,7 @@ module _ (m : Memory) (a : ℕ) (f : Config) (t : Table) (D : ℕ) (ws : List Wi
             let bytes = span-again m.bytes (bytes_size * at) bytes_size (omega (arith, low-number, long-memory.bytes)) in
             let o : memory w b l ≡ m = made ∙ (λ j. memory (store_words m at (s j)) (store_bytes m at (s j)) (table j))
             ∙ (λ j. memory (words j) (bytes j) m.table) in
-            let z = kept-load {r = r} (timed_load_answer f t D ws) answer-plain k (p ∙ ap number stored-plain)
+            let z = kept-load {r = r} (timed_load_answer f t D ws) answer-plain k (p ∙ stored-plain)
             (λ area. refused-group area (ap is_done (hit (is_number a) _ _ n) ∙ k)) in (
               z.0,
               (

@@ -10,8 +10,8 @@ use lib.Dec.{ltb, leb}
 use lib.ListN.{length}
 use Rattle.words.proofs.Tests.{skip, past-test, at_test, and_left, and_right}
 use Rattle.node.specs.Answers.{is_done}
-use Rattle.node.specs.declared.Answer.{Answer}
-use Rattle.node.specs.declared.Answer.TheVariants.{NoSuchNode, WrongPhase, NotLive, NoSuchPacket}
+use Rattle.node.specs.Answers.{Answer}
+use Rattle.node.specs.Answers.{NoSuchNode, WrongPhase, NotLive, NoSuchPacket}
 use Rattle.node.proofs.Answers.{done-is}
 use Rattle.wire.specs.Reads.{part_of}
 use Rattle.site.specs.Counts.{packets}

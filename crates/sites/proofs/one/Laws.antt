@@ -8,16 +8,16 @@ use Prim.Native.Nat.{ℕ, ◌*◌, ◌≤◌}
 use native.Mathlib.Omega.{arith}
 use borrow.Author.Tests.{ltb-false, eq-eqb, ne_eqb}
 use lib.Dec.{ltb}
-use lib.ListN.{length, take, length-take, replicate}
+use lib.ListN.{length, replicate}
 use mir.Val.{bool_byte}
-use Rattle.words.proofs.Tests.{hit, skip, or-neither, or-rest}
+use Rattle.words.proofs.Tests.{hit, skip, or-neither}
 use Rattle.lists.specs.Bytes.{bytes32, written, Put, Tried}
 use Rattle.lists.proofs.Chain.{start, step, finish-by}
 use Rattle.allotment.specs.Allotment.{owners_of}
-use Rattle.node.specs.Answers.{number, is_done}
+use Rattle.node.specs.Answers.{is_done}
 use Rattle.node.specs.Figures.{is_waiting}
-use Rattle.node.specs.declared.Answer.{Answer}
-use Rattle.node.specs.declared.Answer.TheVariants.{Done, OutOfRange, NoSuchNode, NoRoom}
+use Rattle.node.specs.Answers.{Answer}
+use Rattle.node.specs.Answers.{Done, OutOfRange, NoSuchNode, NoRoom}
 use Rattle.node.specs.Model.{Node}
 use Rattle.site.specs.Members.{outside, node_index}
 use Rattle.site.specs.declared.SiteHeader.{SiteHeader}
@@ -32,28 +32,25 @@ use Rattle.machine.proofs.Seats.{config-are}
 use Rattle.machine.proofs.Whole.{enough, long-enough, as-header, at_place, live-read, stored-read}
 use Rattle.node.proofs.Answers.{done-is}
 use Rattle.machine.specs.Loading.{header_read, member_read}
-use Rattle.windows.specs.Copies.{windows_in, window_words, list_of}
 use Rattle.windows.specs.declared.Window.{Window}
-use Rattle.windows.specs.declared.Windows.{Windows}
-use Rattle.windows.proofs.Copies.{taken-again}
 use Rattle.machine.specs.timed.Timed.{first_epoch}
 use Rattle.machine.specs.timed.Stored.{stored_load_answer, stored_load, timed_loaded_store, timed_loaded_site}
 use Rattle.machine.specs.declared.Day.{Day}
-use Rattle.machine.specs.declared.DayAnswer.{DayAnswer}
 use Rattle.machine.proofs.timed.Stored.{as-begun}
+use Rattle.node.specs.declared.Refusal.{Refusal}
+use Rattle.std.specs.Prelude.{Result, Ok, Err}
+use Rattle.machine.proofs.Refused.{answered-err, answered-ok}
 use Rattle.tally.specs.Counting.{first_tally}
 use Rattle.tally.specs.declared.Tally.{Tally}
 use Rattle.machine.specs.combined.Kept.{Kept}
 use Rattle.machine.specs.combined.Stored.{lent_too_short, step_answer, step_accepted, step_store, step_kept}
-use Rattle.machine.specs.declared.StepResult.{StepResult}
 use Rattle.machine.proofs.combined.Laws.{StepIs, kept-refused, store-refused}
-use Rattle.script.specs.declared.Parsed.{Parsed}
-use Rattle.script.specs.declared.Parsed.TheVariants.{Malformed, Good}
+use Rattle.std.specs.Prelude.{Option}
+use Rattle.std.specs.Prelude.{None, Some}
 use Rattle.sites.specs.one.Memory.{memory_size, memory_too_short, day_in, day_put, with_day, timed_of, kept_of}
-use Rattle.sites.specs.one.Calls.{table_from, loading_of, after_load, timed_after_load, tally_after_load, load_tallied, site_event_answer}
-use Rattle.sites.specs.one.Calls.{after_event, kept_after_event, report_after_event, event_tallied, live_bytes, rest_bytes, node_bytes}
+use Rattle.sites.specs.one.Calls.{table_from, loading_of, after_load, timed_after_load, tally_after_load, site_event_answer}
+use Rattle.sites.specs.one.Calls.{after_event, kept_after_event, report_after_event, live_bytes, rest_bytes, node_bytes}
 use Rattle.sites.specs.one.Calls.{shown_size, showing, out_node}
-use Rattle.sites.specs.declared.Tallied.{Tallied}
 use Rattle.sites.proofs.one.Days.{timed-day, kept-day, same-day}
 
 -- a live node's bytes, one part after another
@@ -94,37 +91,29 @@ module _ (s : Store) (j : ℕ) (h : no_node_at s j ≡ false) where
 
 -- a node that is shown, and a refusal
 module _ (s : Store) (j : ℕ) (out : List ℕ) where
-  abbrev pub Shows : ℕ → List ℕ → Type 0
-  Shows r m = (r ≡ number (showing s j out)) × (m ≡ out_node s j out)
+  abbrev pub Shows : Answer → List ℕ → Type 0
+  Shows r m = (r ≡ showing s j out) × (m ≡ out_node s j out)
 
-  answered : (a : Answer) {n : ℕ} {m : List ℕ} → n ≡ number a → a ≡ showing s j out → m
-      ≡ cond (is_done a) (written out 0 (node_bytes (member_read s j))) out → Shows n m
+  answers : (a : Answer) {m : List ℕ} → a ≡ showing s j out → m
+      ≡ cond (is_done a) (written out 0 (node_bytes (member_read s j))) out → Shows a m
   unfolding out_node
-  answered a c e f = (c ∙ ap number e, f ∙ ap (λ (x : Answer). cond (is_done x) (written out 0 (node_bytes (member_read s j))) out) e)
+  answers a e f = (e, f ∙ ap (λ (x : Answer). cond (is_done x) (written out 0 (node_bytes (member_read s j))) out) e)
 
   abbrev few : Bool
   few = too_short s || ltb (length out) shown_size
 
-  pub no_room : {n : ℕ} → few ≡ true → n ≡ number NoRoom → Shows n out
+  pub no_room : few ≡ true → Shows NoRoom out
   unfolding showing
-  no_room h c = answered NoRoom c (sym (hit _ _ _ h)) refl
+  no_room h = answers NoRoom (sym (hit _ _ _ h)) refl
 
   module _ (h : few ≡ false) where
-    pub no_node : {n : ℕ} → outside (config_in s) j ≡ true → n ≡ number NoSuchNode → Shows n out
+    pub no_node : outside (config_in s) j ≡ true → Shows NoSuchNode out
     unfolding showing
-    no_node o c = answered NoSuchNode c (sym (skip _ _ _ _ h (hit _ _ _ o))) refl
+    no_node o = answers NoSuchNode (sym (skip _ _ _ _ h (hit _ _ _ o))) refl
 
-    pub shows : {n : ℕ} {m : List ℕ} → outside (config_in s) j ≡ false → n ≡ number Done → m ≡ written out 0 (node_bytes (member_read s j))
-        → Shows n m
+    pub shows : {m : List ℕ} → outside (config_in s) j ≡ false → m ≡ written out 0 (node_bytes (member_read s j)) → Shows Done m
     unfolding showing
-    shows o c e = answered Done c (sym (skip _ _ _ _ h (skip _ _ _ _ o refl))) e
-
--- the words in use stand for the list
-pub used-list : (w : Windows) (n : ℕ) → n ≡ length (window_words w) → windows_in (take n w.list) ≡ list_of w
-used-list w n e = ap windows_in (ap (λ (m : ℕ). take m w.list) e ∙ taken-again (4 * w.count) w.list)
-
-pub used-fits : (w : Windows) (n : ℕ) → n ≡ length (window_words w) → n ≤ length w.list
-used-fits w n e = omega (arith, e, length-take (4 * w.count) w.list)
+    shows o e = answers Done (sym (skip _ _ _ _ h (skip _ _ _ _ o refl))) e
 
 -- whether a number is outside, as the header that is read has it
 pub outside-is : (s : Store) (j : ℕ) → too_short s ≡ false → {k : SiteHeader} {b : Bool} → k ≡ header_read s → b ≡ outside k.config j
@@ -143,63 +132,53 @@ module _ (s : Store) (l : List ℕ) (ws : List Window) (t : Tally) (out : List �
   abbrev day : Day
   day = day_in s.words
 
-  abbrev pub EventIs : Parsed → Tallied → List ℕ → List ℕ → List ℕ → List ℕ → Type 0
-  EventIs p r w b x o =
-      (r ≡ event_tallied s l ws t out p)
+  abbrev pub EventIs : Option Event → Answer → Tally → List ℕ → List ℕ → List ℕ → List ℕ → Type 0
+  EventIs p r v w b x o =
+      (r ≡ site_event_answer s l ws t out p)
       × ((w ≡ (after_event s l ws t out p).words)
       × ((b ≡ (after_event s l ws t out p).bytes)
-      × ((o ≡ report_after_event s l ws t out p) × (kept_of (store w b) x r.tally ≡ kept_after_event s l ws t out p))))
+      × ((o ≡ report_after_event s l ws t out p) × (kept_of (store w b) x v ≡ kept_after_event s l ws t out p))))
 
   -- too few words or bytes
-  pub lacking : (p : Parsed) {n : ℕ} → memory_too_short s ≡ true → n ≡ number NoRoom
-      → EventIs p (record { code = n; tally = t }) s.words s.bytes l out
+  pub lacking : (p : Option Event) → memory_too_short s ≡ true → EventIs p NoRoom t s.words s.bytes l out
   unfolding site_event_answer after_event kept_after_event report_after_event
-  lacking p h m =
+  lacking p h =
       let a : site_event_answer s l ws t out p ≡ NoRoom = hit _ _ _ h in
       let k : kept_after_event s l ws t out p ≡ kept_of s l t = hit _ _ _ h in
       let q : after_event s l ws t out p ≡ s = skip _ _ _ _ (ap is_done a) refl in
-      let c = m ∙ ap number (sym a) in (
-        (λ i. record { code = c i; tally = (sym k i).tally }),
-        (ap (λ (x : Store). x.words) (sym q), (ap (λ (x : Store). x.bytes) (sym q), (sym (hit _ _ _ h), sym k))),
-      )
+      (sym a, (ap (λ (x : Store). x.words) (sym q), (ap (λ (x : Store). x.bytes) (sym q), (sym (hit _ _ _ h), sym k))))
 
-  -- three numbers that make no event, with any list
-  pub no-event : {p : Parsed} {r : Tallied} → Malformed ≡ p → r ≡ event_tallied s l [] t out Malformed
-      → EventIs p r s.words s.bytes l out
+  -- three numbers that make no event
+  pub no-event : {p : Option Event} {r : Answer} → None ≡ p → memory_too_short s ≡ false → r ≡ cond (lent_too_short s l out) NoRoom OutOfRange
+      → EventIs p r t s.words s.bytes l out
   unfolding site_event_answer after_event kept_after_event report_after_event
-  no-event {p} {r} q e = subst (λ (x : Parsed). EventIs x r s.words s.bytes l out) q (
-    e,
+  no-event {p} {r} q h e = subst (λ (x : Option Event). EventIs x r t s.words s.bytes l out) q (
+    e ∙ sym (skip _ _ _ _ h refl),
     (
       ap (λ (x : Store). x.words) z,
-      (
-        ap (λ (x : Store). x.bytes) z,
-        (sym (either (memory_too_short s) out), ap (kept_of s l) y ∙ sym (either (memory_too_short s) (kept_of s l t))),
-      ),
+      (ap (λ (x : Store). x.bytes) z, (sym (either (memory_too_short s) out), sym (either (memory_too_short s) (kept_of s l t)))),
     ),
   )
     where
-      z : s ≡ after_event s l ws t out Malformed
-      z = sym (either (is_done (site_event_answer s l ws t out Malformed)) s)
-
-      y : r.tally ≡ t
-      y = ap (λ (x : Tallied). x.tally) e ∙ ap (λ (x : Kept). x.tally) (either (memory_too_short s) (kept_of s l t))
+      z : s ≡ after_event s l ws t out None
+      z = sym (either (is_done (site_event_answer s l ws t out None)) s)
 
   module _ (h : memory_too_short s ≡ false) (e : Event) where
-    answer-is : site_event_answer s l ws t out (Good e) ≡ step_answer s day l ws t out e
+    answer-is : site_event_answer s l ws t out (Some e) ≡ step_answer s day l ws t out e
     unfolding site_event_answer
     answer-is = skip _ _ _ _ h refl
 
-    kept-is : kept_after_event s l ws t out (Good e) ≡ step_kept s day l ws t out e
+    kept-is : kept_after_event s l ws t out (Some e) ≡ step_kept s day l ws t out e
     unfolding kept_after_event
     kept-is = skip _ _ _ _ h refl
 
     -- the words with the day behind them
-    store_is : with_day (step_store s day l ws t out e) (step_kept s day l ws t out e).timed.day ≡ after_event s l ws t out (Good e)
+    store_is : with_day (step_store s day l ws t out e) (step_kept s day l ws t out e).timed.day ≡ after_event s l ws t out (Some e)
     unfolding after_event
     store_is = go (step_accepted s day l ws t out e) refl
       where
         go : (b : Bool) → step_accepted s day l ws t out e ≡ b
-            → with_day (step_store s day l ws t out e) (step_kept s day l ws t out e).timed.day ≡ after_event s l ws t out (Good e)
+            → with_day (step_store s day l ws t out e) (step_kept s day l ws t out e).timed.day ≡ after_event s l ws t out (Some e)
         go true c = sym (hit _ _ _ (ap is_done answer-is ∙ c))
         go false c =
             ap₂ (λ (x : Store) (k : Kept). with_day x k.timed.day) (store-refused s day l ws t out e c)
@@ -208,69 +187,30 @@ module _ (s : Store) (l : List ℕ) (ws : List Window) (t : Tally) (out : List �
             ∙ sym (skip _ _ _ _ (ap is_done answer-is ∙ c) refl)
 
     -- a step of the machine, and the day that it gives
-    pub in_memory : {d : Day} {r : StepResult} {w b x o y : List ℕ} → d ≡ day → StepIs s d l ws t out e r w b x o
-        → memory_size ≤ length w → y
-        ≡ day_put w r.day → EventIs (Good e) (record { code = r.code; tally = r.tally }) y b x o
+    pub in_memory : {d n : Day} {r : Answer} {v : Tally} {w b x o y : List ℕ} → d ≡ day → StepIs s d l ws t out e r n v w b x o
+        → memory_size ≤ length w → y ≡ day_put w n → EventIs (Some e) r v y b x o
     unfolding report_after_event
-    in_memory {d} {r} {w} {b} {x} {o} {y} g z long f =
-        let p : StepIs s day l ws t out e r w b x o = subst (λ (n : Day). StepIs s n l ws t out e r w b x o) g z in
-        let v = p.0 in
-        let code : r.code ≡ number (site_event_answer s l ws t out (Good e)) = ap (λ (q : StepResult). q.code) v
-        ∙ ap number (sym answer-is) in
-        let tally : r.tally ≡ (kept_after_event s l ws t out (Good e)).tally = ap (λ (z : StepResult). z.tally) v
-        ∙ ap (λ (z : Kept). z.tally) (sym kept-is) in
-        let words : day_put w r.day ≡ (with_day (step_store s day l ws t out e) (step_kept s day l ws t out e).timed.day).words =
-        ap₂ (λ (z : List ℕ) (n : Day). day_put z n) p.1.0 (ap (λ (z : StepResult). z.day) v) in (
-          (λ i. record { code = code i; tally = tally i }),
+    in_memory {d} {n} {r} {v} {w} {b} {x} {o} {y} g z long f =
+        let p : StepIs s day l ws t out e r n v w b x o = subst (λ (m : Day). StepIs s m l ws t out e r n v w b x o) g z in
+        let words : day_put w n ≡ (with_day (step_store s day l ws t out e) (step_kept s day l ws t out e).timed.day).words =
+        ap₂ (λ (z : List ℕ) (m : Day). day_put z m) p.1.0 (ap (λ (k : Kept). k.timed.day) p.1.1.1.1) in (
+          p.0 ∙ sym answer-is,
           (
             f ∙ words ∙ ap (λ (z : Store). z.words) store_is,
             (
               p.1.1.0 ∙ ap (λ (z : Store). z.bytes) store_is,
               (
                 p.1.1.1.0 ∙ sym (skip _ _ _ _ h refl),
-                ap (λ (z : List ℕ). kept_of (store z b) x r.tally) f ∙ kept-day (store w b) r.day long x r.tally ∙ p.1.1.1.1
-                    ∙ sym kept-is,
+                ap (λ (z : List ℕ). kept_of (store z b) x v) f ∙ kept-day (store w b) n long x v ∙ p.1.1.1.1 ∙ sym kept-is,
               ),
             ),
           ),
         )
 
--- what is answered to numbers that make no event
-module _ (s : Store) (l : List ℕ) (t : Tally) (out : List ℕ) where
-  none-tally : t ≡ (kept_after_event s l [] t out Malformed).tally
-  unfolding kept_after_event
-  none-tally = ap (λ (k : Kept). k.tally) (sym (either (memory_too_short s) (kept_of s l t)))
-
-  none_is : {a : Answer} {n : ℕ} → a ≡ site_event_answer s l [] t out Malformed → n ≡ number a
-      → ◌≡◌ {A = Tallied} (record { code = n; tally = t }) (event_tallied s l [] t out Malformed)
-  none_is e m = let c = m ∙ ap number e in λ i. record { code = c i; tally = none-tally i }
-
-  few-answer : (memory_too_short s || lent_too_short s l out) ≡ true → NoRoom ≡ site_event_answer s l [] t out Malformed
-  unfolding site_event_answer
-  few-answer h = go (memory_too_short s) refl
-    where
-      go : (b : Bool) → memory_too_short s ≡ b → NoRoom ≡ cond b NoRoom (cond (lent_too_short s l out) NoRoom OutOfRange)
-      go true k = refl
-      go false k = sym (hit _ _ _ (or-rest (memory_too_short s) (lent_too_short s l out) h k))
-
-  pub no-event-few : {n : ℕ} → (memory_too_short s || lent_too_short s l out) ≡ true → n ≡ number NoRoom
-      → ◌≡◌ {A = Tallied} (record { code = n; tally = t }) (event_tallied s l [] t out Malformed)
-  no-event-few h m = none_is (few-answer h) m
-
-  pub no-event-none : {n : ℕ} → (memory_too_short s || lent_too_short s l out) ≡ false → n ≡ number OutOfRange
-      → ◌≡◌ {A = Tallied} (record { code = n; tally = t }) (event_tallied s l [] t out Malformed)
-  unfolding site_event_answer
-  no-event-none h m = let q = or-neither (memory_too_short s) (lent_too_short s l out) h in none_is
-      (sym (skip _ _ _ _ q.0 (skip _ _ _ _ q.1 refl))) m
-
--- an event that is one, and an event with a list that words stand for
-pub an-event : (s : Store) (l : List ℕ) (ws : List Window) (t : Tally) (out : List ℕ) (e : Event) {p : Parsed} {r : Tallied}
-    {w b x o : List ℕ} → Good e ≡ p → EventIs s l ws t out (Good e) r w b x o → EventIs s l ws t out p r w b x o
-an-event s l ws t out e {p} {r} {w} {b} {x} {o} q h = subst (λ (y : Parsed). EventIs s l ws t out y r w b x o) q h
-
-pub with-list : (s : Store) (l : List ℕ) {us : List Window} (ws : List Window) (t : Tally) (out : List ℕ) (p : Parsed) {r : Tallied}
-    {w b x o : List ℕ} → us ≡ ws → EventIs s l us t out p r w b x o → EventIs s l ws t out p r w b x o
-with-list s l {us} ws t out p {r} {w} {b} {x} {o} z h = subst (λ (vs : List Window). EventIs s l vs t out p r w b x o) z h
+-- an event that is one
+pub an-event : (s : Store) (l : List ℕ) (ws : List Window) (t : Tally) (out : List ℕ) (e : Event) {p : Option Event} {r : Answer} {v : Tally}
+    {w b x o : List ℕ} → Some e ≡ p → EventIs s l ws t out (Some e) r v w b x o → EventIs s l ws t out p r v w b x o
+an-event s l ws t out e {p} {r} {v} {w} {b} {x} {o} q h = subst (λ (y : Option Event). EventIs s l ws t out y r v w b x o) q h
 
 -- a load
 module _ (s : Store) (f : Config) (rows : List ℕ) (D : ℕ) (ws : List Window) where
@@ -286,15 +226,14 @@ module _ (s : Store) (f : Config) (rows : List ℕ) (D : ℕ) (ws : List Window)
       let q : after_load s f rows D ws ≡ s = skip _ _ _ _ g refl in
       (e, (ap (λ (x : Store). x.words) (sym q), (ap (λ (x : Store). x.bytes) (sym q), sym (skip _ _ _ _ g refl))))
 
-  -- with the tally: set anew where the load is accepted
-  pub tally-loaded : (t : Tally) {a : Answer} {v : Tally} {n : ℕ} → a ≡ loading_of s f rows D ws → n ≡ number a → v
-      ≡ cond (is_done a) first_tally t
-      → ◌≡◌ {A = Tallied} (record { code = n; tally = v }) (load_tallied s f rows D ws t)
+  -- the tally is set anew where the load is accepted
+  pub tally-first : (t : Tally) {v : Tally} → Done ≡ loading_of s f rows D ws → v ≡ first_tally → v ≡ tally_after_load s f rows D ws t
   unfolding tally_after_load
-  tally-loaded t e m u =
-      let c = m ∙ ap number e in
-      let d = u ∙ ap (λ (x : Answer). cond (is_done x) first_tally t) e in
-      λ i. record { code = c i; tally = d i }
+  tally-first t e h = h ∙ sym (hit _ _ _ (ap is_done (sym e)))
+
+  pub tally-stays : (t : Tally) {a : Answer} → a ≡ loading_of s f rows D ws → is_done a ≡ false → t ≡ tally_after_load s f rows D ws t
+  unfolding tally_after_load
+  tally-stays t e h = sym (skip _ _ _ _ (ap is_done (sym e) ∙ h) refl)
 
 -- memory that is long enough
 pub long-words : (s : Store) → memory_too_short s ≡ false → memory_size ≤ length s.words
@@ -321,44 +260,42 @@ module _ (s : Store) (f : Config) (rows : List ℕ) (D : ℕ) (ws : List Window)
       loading-is = skip _ _ _ _ h (hit _ _ _ (eq-eqb _ _ g)) ∙ sym (skip _ _ _ _ (not_short s h) refl)
 
       -- what module timed of crate machine says of the load
-      abbrev pub Loaded : Table → DayAnswer → List ℕ → List ℕ → Type 0
+      abbrev pub Loaded : Table → Result Day Refusal → List ℕ → List ℕ → Type 0
       Loaded t r w b = (r ≡ stored_load s f t D ws)
           × ((w ≡ (timed_loaded_store s f t D ws).words)
           × ((b ≡ (timed_loaded_store s f t D ws).bytes) × (site_in (store w b) ≡ timed_loaded_site s f t D ws)))
 
-      answer-is-load : {r : DayAnswer} {w b : List ℕ} → Loaded (table_from rows) r w b → r.answer ≡ loading_of s f rows D ws
-      answer-is-load p = ap (λ (x : DayAnswer). x.answer) p.0 ∙ sym loading-is
-
-      pub load-refused : {t : Table} {r : DayAnswer} {w b : List ℕ} → t ≡ table_from rows → Loaded t r w b → is_done r.answer ≡ false
-          → LoadsIs s f rows D ws r.answer w b
+      pub load-refused : {t : Table} {r : Refusal} {w b : List ℕ} → t ≡ table_from rows → Loaded t (Err r) w b
+          → LoadsIs s f rows D ws (Err r) w b
       unfolding timed_loaded_store
-      load-refused {t} {r} {w} {b} q o k =
-          let p = subst (λ (x : Table). Loaded x r w b) q o in
-          let a = answer-is-load p in
-          let z : s ≡ timed_loaded_store s f (table_from rows) D ws = sym (skip _ _ _ _ (ap is_done (sym (a ∙ loading-is)) ∙ k) refl) in
-          subst (λ (x : Store). LoadsIs s f rows D ws r.answer x.words x.bytes)
-          (z ∙ sym (λ i. record { words = p.1.0 i; bytes = p.1.1.0 i })) (no-load s f rows D ws a k)
+      load-refused {t} {r} {w} {b} q o =
+          let p = subst (λ (x : Table). Loaded x (Err r) w b) q o in
+          let a : Err r ≡ stored_load_answer s f (table_from rows) D ws = sym (answered-err _ _ (sym p.0)) in
+          let z : s ≡ timed_loaded_store s f (table_from rows) D ws = sym (skip _ _ _ _ (ap is_done (sym a)) refl) in
+          subst (λ (x : Store). LoadsIs s f rows D ws (Err r) x.words x.bytes)
+          (z ∙ sym (λ i. record { words = p.1.0 i; bytes = p.1.1.0 i })) (no-load s f rows D ws (a ∙ sym loading-is) refl)
 
-      pub load-done : {t : Table} {r : DayAnswer} {w b y : List ℕ} → t ≡ table_from rows → Loaded t r w b → is_done r.answer ≡ true
-          → memory_size ≤ length w → y ≡ day_put w r.day
-          → LoadsIs s f rows D ws r.answer y b
+      pub load-done : {t : Table} {d : Day} {w b y : List ℕ} → t ≡ table_from rows → Loaded t (Ok d) w b
+          → memory_size ≤ length w → y ≡ day_put w d → LoadsIs s f rows D ws Done y b
       unfolding after_load timed_after_load
-      load-done {t} {r} {w} {b} {y} q o k long e =
-          let p = subst (λ (x : Table). Loaded x r w b) q o in
-          let a = answer-is-load p in
-          let d : r.day ≡ first_epoch D = ap (λ (x : DayAnswer). x.day) p.0 in
-          let done : is_done (loading_of s f rows D ws) ≡ true = ap is_done (sym a) ∙ k in
+      load-done {t} {d} {w} {b} {y} q o long e =
+          let p = subst (λ (x : Table). Loaded x (Ok d) w b) q o in
+          let k = answered-ok _ _ (sym p.0) in
+          let g : stored_load_answer s f (table_from rows) D ws ≡ Done = done-is _ k.0 in
+          let a : Done ≡ loading_of s f rows D ws = sym g ∙ sym loading-is in
+          let n : d ≡ first_epoch D = k.1 in
+          let done : is_done (loading_of s f rows D ws) ≡ true = ap is_done (sym a) in
           let u : with_day (timed_loaded_store s f (table_from rows) D ws) (first_epoch D) ≡ after_load s f rows D ws = sym (hit _ _ _ done) in
-          let words : day_put w r.day ≡ day_put (timed_loaded_store s f (table_from rows) D ws).words (first_epoch D) =
-          ap₂ (λ (z : List ℕ) (n : Day). day_put z n) p.1.0 d in (
+          let words : day_put w d ≡ day_put (timed_loaded_store s f (table_from rows) D ws).words (first_epoch D) =
+          ap₂ (λ (z : List ℕ) (m : Day). day_put z m) p.1.0 n in (
             a,
             (
               e ∙ words ∙ ap (λ (x : Store). x.words) u,
               (
                 p.1.1.0 ∙ ap (λ (x : Store). x.bytes) u,
                 ap (λ (z : List ℕ). timed_of (store z b)) e
-                    ∙ timed-day (store w b) r.day long
-                    ∙ as-begun s (store w b) f (table_from rows) D ws r.day (sym (a ∙ loading-is) ∙ done-is r.answer k) d p.1.1.1
+                    ∙ timed-day (store w b) d long
+                    ∙ as-begun s (store w b) f (table_from rows) D ws d g n p.1.1.1
                     ∙ sym (hit _ _ _ done),
               ),
             ),

@@ -3,9 +3,9 @@
 -- Assumes nothing.
 use Rattle.std.specs.Prelude.{Bool, cond, ◌||◌, List, ℕ, ◌-◌, ◌*◌, eqb, ltb, length, replicate}
 use Rattle.lists.specs.Bytes.{written}
-use Rattle.node.specs.Answers.{is_done, number}
-use Rattle.node.specs.declared.Answer.{Answer}
-use Rattle.node.specs.declared.Answer.TheVariants.{Done, OutOfRange, NoSuchNode, NoRoom, Crowded}
+use Rattle.node.specs.Answers.{is_done}
+use Rattle.node.specs.Answers.{Answer}
+use Rattle.node.specs.Answers.{Done, OutOfRange, NoSuchNode, NoRoom, Crowded}
 use Rattle.site.specs.Counts.{packets}
 use Rattle.site.specs.Answers.{area_size}
 use Rattle.node.specs.declared.Config.{Config}
@@ -19,10 +19,9 @@ use Rattle.tally.specs.Counting.{first_tally}
 use Rattle.tally.specs.declared.Tally.{Tally}
 use Rattle.machine.specs.combined.Kept.{Kept, first_refusal}
 use Rattle.machine.specs.combined.Stored.{report_too_short, step_answer, step_store, step_report, step_kept}
-use Rattle.script.specs.declared.Parsed.{Parsed}
-use Rattle.script.specs.declared.Parsed.TheVariants.{Malformed, Good}
+use Rattle.std.specs.Prelude.{Option}
+use Rattle.std.specs.Prelude.{None, Some}
 use Rattle.sites.specs.one.Calls.{table_from, showing, out_node}
-use Rattle.sites.specs.declared.Tallied.{Tallied}
 use Rattle.group.specs.Places.{freed}
 use Rattle.group.specs.Group.{Group, is_number, own_area}
 use Rattle.group.specs.Calls.{GroupCall, LoadSite, SiteCall, is_crowded}
@@ -111,10 +110,6 @@ report_after m area a v e =
 unfoldable pub group_after : Memory → List ℕ → ℕ → Lent → Event → Group
 group_after m area a v e = cond (is_heeded m area a v e) (after_group (group_in m area) (event_call a v.windows e)) (group_in m area)
 
--- the answer's number with the tally
-abbrev pub group_event_tallied : Memory → List ℕ → ℕ → Lent → Event → Tallied
-group_event_tallied m area a v e = record { code = number (group_event_answer m area a v e); tally = group_tally_after m area a v e }
-
 -- A load whose rows are lent as words, three for each of the N nodes: 2 for another number of them, in its place among the refusals
 abbrev pub row_count_fits : Config → List ℕ → Bool
 row_count_fits f rows = eqb (length rows) (3 * f.nodes)
@@ -133,37 +128,31 @@ group_rows m area a f rows D ws = cond (row_count_fits f rows) (group_loaded m a
 unfoldable pub tally_loaded : Memory → ℕ → Config → List ℕ → ℕ → List Window → Tally → Tally
 tally_loaded m a f rows D ws t = cond (is_done (rows_answer m a f rows D ws)) first_tally t
 
-abbrev pub rows_tallied : Memory → ℕ → Config → List ℕ → ℕ → List Window → Tally → Tallied
-rows_tallied m a f rows D ws t = record { code = number (rows_answer m a f rows D ws); tally = tally_loaded m a f rows D ws t }
-
 -- An event made of three numbers, as a script's line has them: what is said of the number, then 15, then 2 for numbers that make none
-abbrev pub group_line_answer : Memory → List ℕ → ℕ → Lent → Parsed → Answer
-group_line_answer m area a v Malformed =
+abbrev pub group_line_answer : Memory → List ℕ → ℕ → Lent → (Option Event) → Answer
+group_line_answer m area a v None =
     first_refusal (loaded_answer m a) (cond (ltb (length area) area_size || report_too_short v.out) NoRoom OutOfRange)
-group_line_answer m area a v (Good e) = group_event_answer m area a v e
+group_line_answer m area a v (Some e) = group_event_answer m area a v e
 
-abbrev pub after_line : Memory → List ℕ → ℕ → Lent → Parsed → Memory
-after_line m area a v Malformed = m
-after_line m area a v (Good e) = after_event m area a v e
+abbrev pub after_line : Memory → List ℕ → ℕ → Lent → (Option Event) → Memory
+after_line m area a v None = m
+after_line m area a v (Some e) = after_event m area a v e
 
-abbrev pub area_after_line : Memory → List ℕ → ℕ → Lent → Parsed → List ℕ
-area_after_line m area a v Malformed = area
-area_after_line m area a v (Good e) = group_area_after m area a v e
+abbrev pub area_after_line : Memory → List ℕ → ℕ → Lent → (Option Event) → List ℕ
+area_after_line m area a v None = area
+area_after_line m area a v (Some e) = group_area_after m area a v e
 
-abbrev pub tally_after_line : Memory → List ℕ → ℕ → Lent → Parsed → Tally
-tally_after_line m area a v Malformed = v.tally
-tally_after_line m area a v (Good e) = group_tally_after m area a v e
+abbrev pub tally_after_line : Memory → List ℕ → ℕ → Lent → (Option Event) → Tally
+tally_after_line m area a v None = v.tally
+tally_after_line m area a v (Some e) = group_tally_after m area a v e
 
-abbrev pub report_after_line : Memory → List ℕ → ℕ → Lent → Parsed → List ℕ
-report_after_line m area a v Malformed = v.out
-report_after_line m area a v (Good e) = report_after m area a v e
+abbrev pub report_after_line : Memory → List ℕ → ℕ → Lent → (Option Event) → List ℕ
+report_after_line m area a v None = v.out
+report_after_line m area a v (Some e) = report_after m area a v e
 
-abbrev pub group_after_line : Memory → List ℕ → ℕ → Lent → Parsed → Group
-group_after_line m area a v Malformed = group_in m area
-group_after_line m area a v (Good e) = group_after m area a v e
-
-abbrev pub group_line_tallied : Memory → List ℕ → ℕ → Lent → Parsed → Tallied
-group_line_tallied m area a v p = record { code = number (group_line_answer m area a v p); tally = tally_after_line m area a v p }
+abbrev pub group_after_line : Memory → List ℕ → ℕ → Lent → (Option Event) → Group
+group_after_line m area a v None = group_in m area
+group_after_line m area a v (Some e) = group_after m area a v e
 
 -- What a listing shows of node j of number a: what is said of the number, then as of the site alone
 unfoldable pub group_node_answer : Memory → ℕ → ℕ → List ℕ → Answer

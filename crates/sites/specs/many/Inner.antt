@@ -5,10 +5,10 @@ use Rattle.std.specs.Prelude.{◌≡◌, Bool, true, false, not, cond, ◌&&◌,
 use Rattle.lists.specs.All.{tab}
 use Rattle.lists.specs.Bytes.{window}
 use Rattle.allotment.specs.Allotment.{total}
-use Rattle.node.specs.Answers.{is_done, number}
+use Rattle.node.specs.Answers.{is_done}
 use Rattle.node.specs.Negotiation.{packet_of}
-use Rattle.node.specs.declared.Answer.{Answer}
-use Rattle.node.specs.declared.Answer.TheVariants.{Done, NoRoom, BadWindows}
+use Rattle.node.specs.Answers.{Answer}
+use Rattle.node.specs.Answers.{Done, NoRoom, BadWindows, Crowded}
 use Rattle.wire.specs.Layout.{packet_size}
 use Rattle.site.specs.Counts.{packets}
 use Rattle.site.specs.Members.{member_at}
@@ -28,13 +28,11 @@ use Rattle.machine.specs.timed.Stored.{timed_in, stored_load_answer, timed_loade
 use Rattle.machine.specs.declared.Day.{Day}
 use Rattle.machine.specs.combined.Kept.{Kept, first_refusal}
 use Rattle.machine.specs.combined.Stored.{step_answer, step_store, step_report, step_kept}
-use Rattle.machine.specs.declared.StepResult.{StepResult}
+use Rattle.tally.specs.declared.Tally.{Tally}
 use Rattle.group.specs.Places.{entry, place, place_filled, freed}
 use Rattle.group.specs.Group.{Group, own_share, common_share, beyond, own_area}
-use Rattle.group.specs.Calls.{is_send, crowded}
+use Rattle.group.specs.Calls.{is_send}
 use Rattle.group.specs.Steps.{next_places, next_bytes}
-use Rattle.sites.specs.declared.Part.{Part}
-use Rattle.sites.specs.declared.Part.TheVariants.{Sends, Hears, Neither}
 use Rattle.sites.specs.many.Memory.{Memory, memory, Lent, store_at, day_at, site_slot_in, places_in, store_words, store_bytes, table_with}
 
 -- whether an event is a hear
@@ -47,17 +45,6 @@ is_hear End = false
 is_hear (Want j d) = false
 is_hear (Crash j) = false
 is_hear (Restart j flags) = false
-
--- an event as a group looks at it: a send, a hear, or neither
-abbrev pub event_part : Event → Part
-event_part (Send j) = Sends j
-event_part (Hear j p) = Hears j p
-event_part Close = Neither
-event_part (Take j i) = Neither
-event_part End = Neither
-event_part (Want j d) = Neither
-event_part (Crash j) = Neither
-event_part (Restart j flags) = Neither
 
 -- a site by itself: its storage and day, its number, the places and the area
 pub record OneSite : Type 0 where
@@ -102,14 +89,15 @@ short_by x full v e = is_send e && (is_done (plain_by x v e) && (leb own_share (
 unfoldable pub taken_by : OneSite → Bool → Lent → Event → Bool
 taken_by x full v e = is_done (plain_by x v e) && not (short_by x full v e)
 
--- what the call tells, and what storage, places, area and output are then
-unfoldable pub step_result_by : OneSite → Bool → Lent → Event → StepResult
-step_result_by x full v e =
-    record {
-      code = cond (short_by x full v e) crowded (number (plain_by x v e));
-      day = cond (taken_by x full v e) (kept_by x v e).timed.day x.day;
-      tally = cond (taken_by x full v e) (kept_by x v e).tally v.tally;
-    }
+-- what the call answers, and what day, tally, storage, places, area and output are then
+unfoldable pub answer_by : OneSite → Bool → Lent → Event → Answer
+answer_by x full v e = cond (short_by x full v e) Crowded (plain_by x v e)
+
+unfoldable pub day_by : OneSite → Bool → Lent → Event → Day
+day_by x full v e = cond (taken_by x full v e) (kept_by x v e).timed.day x.day
+
+unfoldable pub tally_by : OneSite → Bool → Lent → Event → Tally
+tally_by x full v e = cond (taken_by x full v e) (kept_by x v e).tally v.tally
 
 unfoldable pub lent_store_by : OneSite → Bool → Lent → Event → Store
 lent_store_by x full v e =
@@ -143,8 +131,8 @@ send_short s o full j = is_done (group_send_answer s o j) && (leb own_share (pac
 unfoldable pub send_taken : Store → Answer → Bool → ℕ → Bool
 send_taken s o full j = is_done (group_send_answer s o j) && not (send_short s o full j)
 
-unfoldable pub send_number : Store → Answer → Bool → ℕ → ℕ
-send_number s o full j = cond (send_short s o full j) crowded (number (group_send_answer s o j))
+unfoldable pub send_answer : Store → Answer → Bool → ℕ → Answer
+send_answer s o full j = cond (send_short s o full j) Crowded (group_send_answer s o j)
 
 unfoldable pub send_store : Store → Answer → Bool → ℕ → Store
 send_store s o full j = cond (send_taken s o full j) (sent_store s j) s
@@ -183,7 +171,7 @@ memory_by m area i a v e =
     let x = lone_in m area i a in
     let s = lent_store_by x (common_full m e) v e in
     memory (store_words m i s) (store_bytes m i s)
-    (table_with m.table (places_by x (common_full m e) v e) i (step_result_by x (common_full m e) v e).day)
+    (table_with m.table (places_by x (common_full m e) v e) i (day_by x (common_full m e) v e))
 
 unfoldable pub loaded_by : Memory → ℕ → ℕ → Config → Table → ℕ → List Window → Memory
 loaded_by m i a f t D ws =

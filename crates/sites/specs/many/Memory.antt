@@ -6,8 +6,8 @@
 use Rattle.std.specs.Prelude.{Bool, not, cond, ◌&&◌, ◌||◌, List, ℕ, ◌+◌, ◌-◌, ◌*◌, ltb, eqb, length, get_or, set, take}
 use Rattle.lists.specs.All.{tab}
 use Rattle.lists.specs.Bytes.{span, written}
-use Rattle.node.specs.declared.Answer.{Answer}
-use Rattle.node.specs.declared.Answer.TheVariants.{Done, NoSuchNode, NoRoom}
+use Rattle.node.specs.Answers.{Answer}
+use Rattle.node.specs.Answers.{Done, NoSuchNode, NoRoom}
 use Rattle.machine.specs.Layout.{Store, store, words_size, bytes_size}
 use Rattle.machine.specs.timed.Stored.{timed_in}
 use Rattle.machine.specs.declared.Day.{Day}

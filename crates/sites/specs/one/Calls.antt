@@ -7,10 +7,10 @@ use mir.Val.{bool_byte}
 use Rattle.lists.specs.All.{tab}
 use Rattle.lists.specs.Bytes.{bytes32, written}
 use Rattle.allotment.specs.Allotment.{top_request, owners_of}
-use Rattle.node.specs.Answers.{is_done, number}
+use Rattle.node.specs.Answers.{is_done}
 use Rattle.node.specs.Model.{Node}
-use Rattle.node.specs.declared.Answer.{Answer}
-use Rattle.node.specs.declared.Answer.TheVariants.{Done, OutOfRange, NoSuchNode, NoRoom}
+use Rattle.node.specs.Answers.{Answer}
+use Rattle.node.specs.Answers.{Done, OutOfRange, NoSuchNode, NoRoom}
 use Rattle.site.specs.Members.{outside, is_live}
 use Rattle.node.specs.declared.Config.{Config}
 use Rattle.site.specs.declared.Row.{Row}
@@ -25,10 +25,10 @@ use Rattle.tally.specs.Counting.{first_tally}
 use Rattle.tally.specs.declared.Tally.{Tally}
 use Rattle.machine.specs.combined.Kept.{Kept}
 use Rattle.machine.specs.combined.Stored.{lent_too_short, step_answer, step_store, step_report, step_kept}
-use Rattle.script.specs.declared.Parsed.{Parsed}
-use Rattle.script.specs.declared.Parsed.TheVariants.{Malformed, Good}
+use Rattle.site.specs.declared.Event.{Event}
+use Rattle.std.specs.Prelude.{Option}
+use Rattle.std.specs.Prelude.{None, Some}
 use Rattle.sites.specs.one.Memory.{memory_too_short, day_in, with_day, timed_of, kept_of}
-use Rattle.sites.specs.declared.Tallied.{Tallied}
 
 -- the figures of a load
 abbrev pub config_from : ℕ → ℕ → ℕ → ℕ → ℕ → Config
@@ -62,45 +62,38 @@ timed_after_load s f rows D ws = cond (is_done (loading_of s f rows D ws)) (load
 unfoldable pub tally_after_load : Store → Config → List ℕ → ℕ → List Window → Tally → Tally
 tally_after_load s f rows D ws t = cond (is_done (loading_of s f rows D ws)) first_tally t
 
-abbrev pub load_tallied : Store → Config → List ℕ → ℕ → List Window → Tally → Tallied
-load_tallied s f rows D ws t = record { code = number (loading_of s f rows D ws); tally = tally_after_load s f rows D ws t }
-
 -- an event, made of three numbers as a script's line has them: 15, 2 for numbers that make none, and then as the machine answers
-abbrev pub parsed_answer : Store → List ℕ → List Window → Tally → List ℕ → Parsed → Answer
-parsed_answer s area ws t out Malformed = cond (lent_too_short s area out) NoRoom OutOfRange
-parsed_answer s area ws t out (Good e) = step_answer s (day_in s.words) area ws t out e
+abbrev pub parsed_answer : Store → List ℕ → List Window → Tally → List ℕ → (Option Event) → Answer
+parsed_answer s area ws t out None = cond (lent_too_short s area out) NoRoom OutOfRange
+parsed_answer s area ws t out (Some e) = step_answer s (day_in s.words) area ws t out e
 
-unfoldable pub site_event_answer : Store → List ℕ → List Window → Tally → List ℕ → Parsed → Answer
+unfoldable pub site_event_answer : Store → List ℕ → List Window → Tally → List ℕ → (Option Event) → Answer
 site_event_answer s area ws t out p = cond (memory_too_short s) NoRoom (parsed_answer s area ws t out p)
 
 -- what memory, area and tally stand for then
-abbrev pub parsed_kept : Store → List ℕ → List Window → Tally → List ℕ → Parsed → Kept
-parsed_kept s area ws t out Malformed = kept_of s area t
-parsed_kept s area ws t out (Good e) = step_kept s (day_in s.words) area ws t out e
+abbrev pub parsed_kept : Store → List ℕ → List Window → Tally → List ℕ → (Option Event) → Kept
+parsed_kept s area ws t out None = kept_of s area t
+parsed_kept s area ws t out (Some e) = step_kept s (day_in s.words) area ws t out e
 
-unfoldable pub kept_after_event : Store → List ℕ → List Window → Tally → List ℕ → Parsed → Kept
+unfoldable pub kept_after_event : Store → List ℕ → List Window → Tally → List ℕ → (Option Event) → Kept
 kept_after_event s area ws t out p = cond (memory_too_short s) (kept_of s area t) (parsed_kept s area ws t out p)
 
 -- an accepted event writes the storage, as the machine does, and the day
-abbrev pub parsed_store : Store → List ℕ → List Window → Tally → List ℕ → Parsed → Store
-parsed_store s area ws t out Malformed = s
-parsed_store s area ws t out (Good e) =
+abbrev pub parsed_store : Store → List ℕ → List Window → Tally → List ℕ → (Option Event) → Store
+parsed_store s area ws t out None = s
+parsed_store s area ws t out (Some e) =
     with_day (step_store s (day_in s.words) area ws t out e) (step_kept s (day_in s.words) area ws t out e).timed.day
 
-unfoldable pub after_event : Store → List ℕ → List Window → Tally → List ℕ → Parsed → Store
+unfoldable pub after_event : Store → List ℕ → List Window → Tally → List ℕ → (Option Event) → Store
 after_event s area ws t out p = cond (is_done (site_event_answer s area ws t out p)) (parsed_store s area ws t out p) s
 
 -- the output for a report
-abbrev pub parsed_report : Store → List ℕ → List Window → Tally → List ℕ → Parsed → List ℕ
-parsed_report s area ws t out Malformed = out
-parsed_report s area ws t out (Good e) = step_report s (day_in s.words) area ws t out e
+abbrev pub parsed_report : Store → List ℕ → List Window → Tally → List ℕ → (Option Event) → List ℕ
+parsed_report s area ws t out None = out
+parsed_report s area ws t out (Some e) = step_report s (day_in s.words) area ws t out e
 
-unfoldable pub report_after_event : Store → List ℕ → List Window → Tally → List ℕ → Parsed → List ℕ
+unfoldable pub report_after_event : Store → List ℕ → List Window → Tally → List ℕ → (Option Event) → List ℕ
 report_after_event s area ws t out p = cond (memory_too_short s) out (parsed_report s area ws t out p)
-
-abbrev pub event_tallied : Store → List ℕ → List Window → Tally → List ℕ → Parsed → Tallied
-event_tallied s area ws t out p =
-    record { code = number (site_event_answer s area ws t out p); tally = (kept_after_event s area ws t out p).tally }
 
 -- what a listing shows of a live node: state, version, flags, request and owners
 unfoldable pub live_bytes : Node → List ℕ

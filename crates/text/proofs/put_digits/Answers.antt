@@ -9,9 +9,6 @@ use Rattle.text.specs.Write.{decimal}
 use Rattle.text.proofs.Decimal.{lowest, digits-lowest, digit-back}
 use Rattle.text.proofs.put_digits.Goals as goal
 
-pub overflow_add-i : goal.overflow_add-i
-overflow_add-i c = omega arith
-
 pub loop-i-init : goal.loop-i-init
 loop-i-init c =
     let a = c.args in
@@ -23,21 +20,6 @@ loop-i-init c =
           (ap (λ (m : ℕ). lowest m a.x) z ∙ sym (digits-lowest 10 a.x)),
     )
 
-pub overflow_sub-i : goal.overflow_sub-i
-overflow_sub-i c = omega arith
-
-pub overflow_cast-out : goal.overflow_cast-out
-overflow_cast-out c = omega arith
-
-pub overflow_add-out : goal.overflow_add-out
-overflow_add-out c = omega arith
-
-pub bounds-out-i : goal.bounds-out-i
-bounds-out-i c = let l = c.loop-i in omega (arith, l.invariant.2)
-
-pub loop-i-smaller : goal.loop-i-smaller
-loop-i-smaller c = omega arith
-
 pub loop-i-preserved : goal.loop-i-preserved
 loop-i-preserved c =
     let l = c.loop-i in
@@ -48,9 +30,6 @@ loop-i-preserved c =
       digit-back l.out c.args.at l.i l.v h
           (omega (arith, l.invariant.1, l.invariant.2)) ∙ l.invariant.3,
     )
-
-pub shape_of-out : goal.shape_of-out
-shape_of-out c = c.loop-i.invariant.2
 
 pub returns : goal.returns
 unfolding lowest

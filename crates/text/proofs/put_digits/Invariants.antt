@@ -10,6 +10,3 @@ use Rattle.text.proofs.put_digits.Given as goal
 abbrev pub invariant-loop-i : goal.invariant-loop-i
 invariant-loop-i l = (l.at ≤ l.i) × (l.i ≤ length l.initial.out) × (length l.out ≡ length l.initial.out)
     × (written l.out l.at (lowest (l.i - l.at) l.v) ≡ written l.initial.out l.at (decimal l.x))
-
-abbrev pub decreases-loop-i : goal.decreases-loop-i
-decreases-loop-i l = l.i

@@ -1,47 +1,42 @@
-use mathlib.Core.Path.{refl, sym, ap, ap₂, ◌∙◌}
-use mathlib.Core.Bool.{◌&&◌}
-use Prim.Native.Nat.{◌-◌}
-use native.Mathlib.Omega.{arith}
-use native.Mathlib.Numerals.{add-one}
+use Rattle.std.proofs.Common.{arith, ◌≡◌, length, refl, sym, ap, add-one}
+use mathlib.Core.Path.{◌∙◌}
+use mathlib.Core.Bool.{true}
 use Rattle.lists.proofs.Laws.{all_none, all_more, all_end}
-use Rattle.windows.specs.Windows.{window_ok}
-use Rattle.windows.specs.Copies.{window_in}
-use Rattle.windows.specs.Inner.{follows, last_of}
+use Rattle.windows.specs.Windows.{window_at}
+use Rattle.windows.specs.Inner.{follows, last_of, ordered_at}
 use Rattle.windows.specs.declared.Window.{Window}
-use Rattle.windows.proofs.Copies.{count_most}
+use Rattle.windows.proofs.Order.{all_fails, then_both, else_none}
 use Rattle.windows.proofs.in_order.Goals as goal
+use Rattle.windows.proofs.in_order.Goals.{then-is_ok, else-is_ok}
 
-pub loop-i-init : goal.loop-i-init
-loop-i-init c = (
-  omega arith,
-  c.count-n.ensures,
-  omega (arith, c.count-n.ensures, count_most c.args.l.now),
-  all_none _,
-  refl,
-)
+pub loop-w-init : goal.loop-w-init
+loop-w-init c = (all_none _, refl)
 
-pub window_in-w-requires : goal.window_in-w-requires
-window_in-w-requires c = omega arith
+pub returns-then-not-follows : goal.returns-then-not-follows
+returns-then-not-follows c =
+    let m = c.loop-w in
+    let p = ordered_at c.args.nodes c.args.day (window_at c.args.ws.now) in
+    let w = window_at c.args.ws.now m.w-index in
+    let h : c.if-is_ok.value ≡ p m.w-index = elim c.if-is_ok.branch [
+      | then-is_ok b ↦ then_both c.is_ok.ensures b.if-is_ok.true
+          (b.value-is ∙ b.follows.ensures ∙ ap (λ (v : Window). follows v w) m.invariant.1)
+      | else-is_ok b ↦ else_none (follows (last_of (window_at c.args.ws.now) m.w-index) w) c.is_ok.ensures b.if-is_ok.false b.value-is
+    ] in
+    all_fails (length c.args.ws.now) p m.w-index (omega arith) (sym h ∙ c.if-not-follows.true)
 
-pub overflow_step-i : goal.overflow_step-i
-overflow_step-i c = omega arith
-
-pub loop-i-smaller : goal.loop-i-smaller
-loop-i-smaller c = omega arith
-
-pub loop-i-preserved : goal.loop-i-preserved
-loop-i-preserved c =
-    let m = c.loop-i in
-    let l = c.args.l.now in
-    let w = c.window_in-w.ensures in (
-      omega arith,
-      m.invariant.1,
-      m.invariant.2,
-      all_more _ _ _ _ m.invariant.3
-          (ap₂ ◌&&◌ (c.window_ok.ensures ∙ ap (window_ok c.args.nodes c.args.day) w)
-          (c.follows.ensures ∙ ap₂ (λ (v w : Window). follows v w) m.invariant.4 w)),
-      w ∙ sym (ap (last_of (window_in l)) (add-one m.i)),
+pub loop-w-preserved : goal.loop-w-preserved
+loop-w-preserved c =
+    let m = c.loop-w in
+    let p = ordered_at c.args.nodes c.args.day (window_at c.args.ws.now) in
+    let w = window_at c.args.ws.now m.w-index in
+    let h : c.if-is_ok.value ≡ p m.w-index = elim c.if-is_ok.branch [
+      | then-is_ok b ↦ then_both c.is_ok.ensures b.if-is_ok.true
+          (b.value-is ∙ b.follows.ensures ∙ ap (λ (v : Window). follows v w) m.invariant.1)
+      | else-is_ok b ↦ else_none (follows (last_of (window_at c.args.ws.now) m.w-index) w) c.is_ok.ensures b.if-is_ok.false b.value-is
+    ] in (
+      all_more p m.w-index true true m.invariant.0 (sym c.if-not-follows.false ∙ h),
+      sym (ap (last_of (window_at c.args.ws.now)) (add-one m.w-index)),
     )
 
 pub returns : goal.returns
-returns c = all_end _ _ _ _ c.loop-i.invariant.3 (omega (arith, c.loop-i.invariant.1))
+returns c = all_end _ _ _ _ c.loop-w.invariant.0 (omega arith)

@@ -1,13 +1,20 @@
-use mathlib.Core.Path.{sym, ap, ap₂, ◌∙◌}
-use mathlib.Core.Bool.{◌&&◌}
-use Prim.Native.Nat.{ℕ}
-use lib.Dec.{leb}
-use Rattle.windows.specs.Windows.{top_windows, list_ok}
-use Rattle.windows.proofs.Copies.{count-in}
+use mathlib.Core.Path.{◌≡◌, sym, ◌∙◌}
+use mathlib.Core.Bool.{false}
+use native.Mathlib.Omega.{arith}
+use Rattle.windows.specs.Windows.{list_ok}
+use Rattle.windows.proofs.Laws.{too_many, not_day, of-day}
 use Rattle.windows.proofs.list_ok.Goals as goal
 
-pub returns : goal.returns
-unfolding list_ok
-returns c =
-    ap₂ ◌&&◌ c.day_ok.ensures (ap₂ ◌&&◌ (ap (λ (n : ℕ). leb n top_windows)
-    (c.count-n.ensures ∙ sym (count-in c.args.l.now))) c.entries_ok.ensures)
+pub returns-then-ws-gt64 : goal.returns-then-ws-gt64
+returns-then-ws-gt64 c = sym (too_many c.args.nodes c.args.day c.args.ws.now (omega arith))
+
+pub returns-then-day_ok : goal.returns-then-day_ok
+returns-then-day_ok c =
+    c.entries_ok.ensures
+    ∙ of-day c.args.nodes c.args.day c.args.ws.now (omega arith) (sym c.day_ok.ensures ∙ c.if-day_ok.true)
+
+pub returns-else-day_ok : goal.returns-else-day_ok
+returns-else-day_ok c =
+    let e : false ≡ list_ok c.args.nodes c.args.day c.args.ws.now =
+    not_day c.args.nodes c.args.day c.args.ws.now (sym c.day_ok.ensures ∙ c.if-day_ok.false) in
+    cc

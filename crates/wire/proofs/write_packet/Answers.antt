@@ -1,39 +1,15 @@
-use Rattle.wire.specs.Layout.{packet_size, packet_bytes}
-use Rattle.words.proofs.Tests.{hit, skip}
-use Rattle.lists.proofs.Laws.{whole, So}
-use lib.ListN.{length}
-use borrow.Author.Tests.{eq-eqb, ne_eqb}
-use Rattle.wire.proofs.Writes.{packet-so, length-so}
-use mathlib.Core.Path.{◌≡◌, refl, sym, ◌∙◌}
+use mathlib.Core.Path.{◌≡◌, sym, ◌∙◌}
 use native.Mathlib.Omega.{arith}
 use borrow.Author.Rules.{rules}
+use lib.ListN.{length}
+use lib.Seq.{length-take-le}
+use Rattle.wire.specs.Layout.{packet_size}
 use Rattle.wire.proofs.write_packet.Goals as goal
-use Rattle.wire.proofs.write_packet.Goals.{After-slice_known-5-1, Start}
 
-long : (c : Start) → length c.args.p.requests ≡ 32
-long c = search rules
+pub slice_bounds-copy_from_slice-end-2 : goal.slice_bounds-copy_from_slice-end-2
+slice_bounds-copy_from_slice-end-2 c = sym (length-take-le packet_size c.args.part.now (omega arith))
 
-parts : (c : After-slice_known-5-1) → So c.args.part.now
-    (packet_bytes c.args.p) c.put_bytes.new.out packet_size
-parts c =
-    packet-so c.args.p (omega arith) (long c.before.before.before.before.before.before.before.before.before.before.before.before.before.before.before.before.before.before.before.before.before.before)
-    c.put_word.ensures
-    c.put_word-2.ensures
-    c.put_word-3.ensures
-    c.put_bytes.ensures
-
-pub returns-then-part-ne-PACKET : goal.returns-then-part-ne-PACKET
-returns-then-part-ne-PACKET c = record {
-  value = sym (ne_eqb _ _ c.if-part-ne-PACKET.true);
-  part_after = sym (skip _ _ _ _ (ne_eqb _ _ c.if-part-ne-PACKET.true) refl);
-}
-
-pub shape_of-part : goal.shape_of-part
-shape_of-part c = length-so (parts c) (omega arith)
-
-pub returns : goal.returns
-returns c =
-    let h : length c.args.part.now ≡ packet_size = omega arith in record {
-      value = sym (eq-eqb _ _ h);
-      part_after = whole (parts c) (omega arith) ∙ sym (hit _ _ _ (eq-eqb _ _ h));
-    }
+pub copy_from_slice-requires : goal.copy_from_slice-requires
+copy_from_slice-requires c =
+    let long : length c.bytes_of.result ≡ packet_size = search rules in
+    length-take-le packet_size c.args.part.now (omega arith) ∙ sym long

@@ -1,16 +1,18 @@
 -- `allot` goes from node to node: those before the place have their share, and their words are taken. Then from one free slot to the next:
 -- the rows are those of the rule's draft after the slots before it.
-use mathlib.Core.Path.{◌≡◌, sym, ap, ap₂, ◌∙◌}
+use mathlib.Core.Path.{◌≡◌, sym, ap, ap₂, ◌∙◌, refl}
 use mathlib.Core.Bool.{true, not, ◌&&◌}
 use mathlib.Core.List.{List}
 use mathlib.Core.Logic.{◌≢◌}
-use Prim.Native.Nat.{ℕ, ◌≤◌, ◌<◌, ◌-◌, ◌+◌}
+use Prim.Native.Nat.{ℕ, ◌≤◌, ◌<◌, ◌+◌}
 use native.Mathlib.Omega.{arith}
 use borrow.Author.Rules.{rules}
+use mir.Val.{Fits}
+use mir.Syntax.{w8}
 use borrow.Author.Tests.{le-leb, lt-ltb, ltb-true, ltb-false, eqb-false, not-true}
 use lib.Dec.{eqb, ltb, leb}
-use lib.ListN.{length, get_or, length-set}
-use lib.Seq.{get_or-set_other}
+use lib.ListN.{length, get_or, length-set, take, length-take}
+use lib.Seq.{get_or-set_other, get_or-take}
 use Rattle.words.proofs.Tests.{by-test, hit, and_left, and_right}
 use Rattle.lists.specs.Bytes.{written}
 use Rattle.lists.proofs.Laws.{fill_none, fill_more, length-tab}
@@ -46,6 +48,20 @@ below target n z held i h =
     by-test (λ (_ : ℕ). i < n) (ltb i n) 0 0 (λ t. ltb-true i n t)
     (λ t. let e = z i (ltb-false i n t) in absurd (omega (arith, e, h)))
 
+pub slice_bounds-target-end : goal.slice_bounds-target-end
+slice_bounds-target-end c =
+    let a = c.args in
+    let u = c.rows_used-rows in
+    let w : length a.target ≡ 32 = search rules in
+    omega (arith, w, (rest a.s.now a.at a.n u.result u.ensures).most)
+
+pub slice_bounds-most-items-end : goal.slice_bounds-most-items-end
+slice_bounds-most-items-end c =
+    let a = c.args in
+    let u = c.rows_used-rows in
+    let w : length a.target ≡ 32 = search rules in
+    omega (arith, length-take u.result a.target, w, (rest a.s.now a.at a.n u.result u.ensures).most)
+
 pub loop-i-init : goal.loop-i-init
 loop-i-init c = (
   omega arith,
@@ -56,30 +72,6 @@ loop-i-init c = (
   taken_none _,
   (rest _ _ _ _ c.rows_used-rows.ensures).most,
 )
-
-pub bounds-target-i : goal.bounds-target-i
-bounds-target-i c = omega arith
-
-pub offset_bounds-low-i : goal.offset_bounds-low-i
-offset_bounds-low-i c = omega arith
-
-pub bounds-low-i : goal.bounds-low-i
-bounds-low-i c = omega arith
-
-pub offset_bounds-high-i : goal.offset_bounds-high-i
-offset_bounds-high-i c = omega arith
-
-pub bounds-high-i : goal.bounds-high-i
-bounds-high-i c = omega arith
-
-pub bounds-held-i : goal.bounds-held-i
-bounds-held-i c = omega arith
-
-pub overflow_step-i : goal.overflow_step-i
-overflow_step-i c = omega arith
-
-pub loop-i-smaller : goal.loop-i-smaller
-loop-i-smaller c = omega arith
 
 pub loop-i-preserved : goal.loop-i-preserved
 loop-i-preserved c =
@@ -93,12 +85,16 @@ loop-i-preserved c =
     let y : c.high_at-b.result ≡ high_of m l.i = c.high_at-b.ensures ∙ hit _ _ _ e in
     let p = c.own_low-first.ensures ∙ ap₂ (λ (u v : ℕ). own_low u v a.k) x l.invariant.4 in
     let q = c.own_high-second.ensures ∙ ap₂ (λ (u v : ℕ). own_high u v a.k) y l.invariant.5 in
+    let n = c.rows_used-rows.result in
+    let k : l.i < n = omega (arith, length-take n t) in
+    let g : get_or (take n t) l.i 0 ≡ get_or t l.i 0 = get_or-take n t l.i 0 k in
     let r : c.keep_node-share.result ≡ share_of m t a.k l.i = c.keep_node-share.ensures
+    ∙ ap (node_kept c.own_low-first.result c.own_high-second.result) g
     ∙ ap₂ (λ (u v : ℕ). node_kept u v (get_or t l.i 0)) p q in (
-      omega arith,
-      fill_more _ _ _ _ _ (omega arith) l.invariant.1 (ap (λ (z : Share). z.low) r),
-      fill_more _ _ _ _ _ (omega arith) l.invariant.2 (ap (λ (z : Share). z.high) r),
-      fill_more _ _ _ _ _ (omega arith) l.invariant.3 (ap (λ (z : Share). z.held) r),
+      omega (arith, k),
+      fill_more _ _ _ _ _ (omega (arith, k, l.invariant.6)) l.invariant.1 (ap (λ (z : Share). z.low) r),
+      fill_more _ _ _ _ _ (omega (arith, k, l.invariant.6)) l.invariant.2 (ap (λ (z : Share). z.high) r),
+      fill_more _ _ _ _ _ (omega (arith, k, l.invariant.6)) l.invariant.3 (ap (λ (z : Share). z.held) r),
       taken-turn _ _ _ _ l.invariant.4 x,
       taken-turn _ _ _ _ l.invariant.5 y,
       l.invariant.6,
@@ -118,7 +114,7 @@ loop-slot-init c =
     let t = a.target in
     let w : length t ≡ 32 = search rules in
     let g = rest a.s.now a.at a.n u.result u.ensures in
-    let n : l.i ≡ u.result = omega (arith, l.invariant.0) in
+    let n : l.i ≡ u.result = omega (arith, l.invariant.0, length-take u.result t, w, g.most) in
     let o : l.i ≤ 32 = omega (arith, n, g.most) in
     let v : (j : ℕ) → l.i ≤ j → u.result ≤ j = λ j k. omega (arith, n, k) in
     let none : (j : ℕ) → l.i ≤ j → low_of m j ≡ 0 = λ j k. g.lows j (v j k) in
@@ -143,46 +139,17 @@ loop-slot-init c =
       λ z k. fill-past _ _ _ o l.invariant.2 z (omega (arith, n, k)),
     )
 
-pub bounds-held-i-in-loop-slot : goal.bounds-held-i-in-loop-slot
-bounds-held-i-in-loop-slot c = omega arith
-
-pub bounds-target-i-in-loop-slot : goal.bounds-target-i-in-loop-slot
-bounds-target-i-in-loop-slot c = omega arith
-
-pub offset_bounds-low-i-in-loop-slot : goal.offset_bounds-low-i-in-loop-slot
-offset_bounds-low-i-in-loop-slot c = omega arith
-
-pub bounds-low-i-in-loop-slot : goal.bounds-low-i-in-loop-slot
-bounds-low-i-in-loop-slot c = omega arith
-
-pub offset_bounds-low-i-in-loop-slot-2 : goal.offset_bounds-low-i-in-loop-slot-2
-offset_bounds-low-i-in-loop-slot-2 c = omega arith
-
-pub bounds-low-i-in-loop-slot-2 : goal.bounds-low-i-in-loop-slot-2
-bounds-low-i-in-loop-slot-2 c = omega arith
-
-pub offset_bounds-high-i-in-loop-slot : goal.offset_bounds-high-i-in-loop-slot
-offset_bounds-high-i-in-loop-slot c = omega arith
-
-pub bounds-high-i-in-loop-slot : goal.bounds-high-i-in-loop-slot
-bounds-high-i-in-loop-slot c = omega arith
-
-pub offset_bounds-high-i-in-loop-slot-2 : goal.offset_bounds-high-i-in-loop-slot-2
-offset_bounds-high-i-in-loop-slot-2 c = omega arith
-
-pub bounds-high-i-in-loop-slot-2 : goal.bounds-high-i-in-loop-slot-2
-bounds-high-i-in-loop-slot-2 c = omega arith
-
-pub one_more-requires : goal.one_more-requires
-one_more-requires c =
+pub overflow_add-held : goal.overflow_add-held
+overflow_add-held c =
     let l = c.loop-slot in
     let a = c.args in
     let t = c.loop-slot-test.true in
+    let i = c.node_index-i.result in
+    let f : Fits w8 (get_or a.target i 0) = search rules in
+    let h : get_or l.held i 0 < get_or a.target i 0 =
     fill-may a.target (owners_in (masks_in a.s.now a.at)) a.k (holding l.held) _ (l.invariant.1 (left l.slot l.j t)) _
-    c.node_index-i.ensures.1 (some l.slot l.j t)
-
-pub bounds-held-i-in-loop-slot-2 : goal.bounds-held-i-in-loop-slot-2
-bounds-held-i-in-loop-slot-2 c = omega arith
+    c.node_index-i.ensures.1 (some l.slot l.j t) in
+    omega (arith, f.fits, h)
 
 pub overflow_add-slot : goal.overflow_add-slot
 overflow_add-slot c =
@@ -208,7 +175,7 @@ turn-j-requires-in-loop-slot c =
       p.3,
       fill-at a.target (owners_in (masks_in a.s.now a.at)) a.k (holding l.held) _ (l.invariant.1 (left l.slot l.j t)) _
           c.node_index-i.ensures.1 (some l.slot l.j t) _ w
-          l.invariant.0 c.one_more.ensures,
+          l.invariant.0 refl,
     )
 
 pub loop-slot-smaller : goal.loop-slot-smaller
@@ -234,7 +201,7 @@ loop-slot-preserved c =
       so-turn a.target (owners_in m) a.k _ _ l.invariant.2 l.slot l.low l.high l.held l.invariant.3 l.j l.invariant.1 _
           c.node_index-i.ensures.1
           (some l.slot l.j t) (left l.slot l.j t) (l.invariant.4 (left l.slot l.j t))
-          c.node_index-i.ensures.0 _ c.one_more.ensures _ _ _
+          c.node_index-i.ensures.0 _ refl _ _ _
           c.low_bit.ensures c.high_bit.ensures c.next_slot-slot-in-loop-slot.ensures,
       c.next_slot-slot-in-loop-slot.ensures.passes,
       λ z k. get_or-set_other l.low x.result z _ 0 (λ e. omega (arith, e, g, k)) ∙ l.invariant.5 z k,

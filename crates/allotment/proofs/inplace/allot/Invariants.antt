@@ -1,7 +1,7 @@
 use mathlib.Core.Path.{◌≡◌}
 use mathlib.Core.Bool.{true, ◌&&◌}
 use mathlib.Core.List.{◌++◌}
-use Prim.Native.Nat.{ℕ, min, ◌≤◌, ◌<◌, ◌-◌, ◌+◌}
+use Prim.Native.Nat.{ℕ, min, ◌≤◌, ◌<◌, ◌-◌}
 use lib.Dec.{eqb, ltb}
 use lib.ListN.{length, get_or, drop, replicate}
 use Rattle.lists.specs.All.{tab}
@@ -15,9 +15,9 @@ use Rattle.allotment.proofs.inplace.allot.Given as goal
 
 abbrev pub invariant-loop-i : goal.invariant-loop-i
 invariant-loop-i l =
-    (l.i ≤ l.rows) × (l.low ≡ tab l.i (λ j. (share_of (masks_in l.s l.at) l.target l.k j).low) ++ drop l.i (replicate 32 0))
-    × (l.high ≡ tab l.i (λ j. (share_of (masks_in l.s l.at) l.target l.k j).high) ++ drop l.i (replicate 32 0))
-    × (l.held ≡ tab l.i (λ j. (share_of (masks_in l.s l.at) l.target l.k j).held) ++ drop l.i (replicate 32 0))
+    (l.i ≤ l.rows) × (l.low ≡ tab l.i (λ j. (share_of (masks_in l.s l.at) l.fn.target l.k j).low) ++ drop l.i (replicate 32 0))
+    × (l.high ≡ tab l.i (λ j. (share_of (masks_in l.s l.at) l.fn.target l.k j).high) ++ drop l.i (replicate 32 0))
+    × (l.held ≡ tab l.i (λ j. (share_of (masks_in l.s l.at) l.fn.target l.k j).held) ++ drop l.i (replicate 32 0))
     × (l.taken_low ≡ taken (masks_in l.s l.at).low l.i) × (l.taken_high ≡ taken (masks_in l.s l.at).high l.i) × (l.rows ≤ 32)
 
 abbrev pub invariant-loop-slot : goal.invariant-loop-slot

@@ -18,6 +18,6 @@ returns-then-slot-lt80 c =
     ∙ one-mul _ in
     s ∙ sym (skip (ltb k 64) _ _ _ (le-ltb _ _ c.if-slot-lt64.false) (hit (ltb k 80) _ _ (lt-ltb _ _ c.if-slot-lt80.true)))
 
-pub returns : goal.returns
-returns c = sym (skip (ltb c.args.slot 64) _ _ _ (le-ltb _ _ c.if-slot-lt64.false)
+pub returns-else-slot-lt80 : goal.returns-else-slot-lt80
+returns-else-slot-lt80 c = sym (skip (ltb c.args.slot 64) _ _ _ (le-ltb _ _ c.if-slot-lt64.false)
     (skip (ltb c.args.slot 80) _ _ _ (le-ltb _ _ c.if-slot-lt80.false) refl))

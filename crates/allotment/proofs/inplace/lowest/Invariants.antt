@@ -1,6 +1,5 @@
 use mathlib.Core.Path.{◌≡◌}
 use Prim.Native.Nat.{◌≤◌, ◌-◌, ◌/◌, ◌^◌}
-use lib.Bits
 use Rattle.allotment.proofs.LowestOnes.{Far}
 use Rattle.allotment.proofs.inplace.lowest.Given as goal
 

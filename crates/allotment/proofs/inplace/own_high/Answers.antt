@@ -40,9 +40,9 @@ returns-then-k-lt80 c =
     ∙ sym (ap (λ (t : Bool). t && (has_bit a.w b && not (has_bit a.taken b))) (lt-ltb (64 + b) a.k (omega (arith, l)))))
     (λ b l g. ap (λ (t : Bool). t && (has_bit a.w b && not (has_bit a.taken b))) (le-ltb (64 + b) a.k (omega (arith, l))))
 
-pub returns : goal.returns
+pub returns-else-k-lt80 : goal.returns-else-k-lt80
 unfolding own_high
-returns c =
+returns-else-k-lt80 c =
     let a = c.args in
     whole_word 16 (Bits.bit_xor a.w (Bits.bit_and a.w a.taken))
     (λ b. ltb (64 + b) a.k && (has_bit a.w b && not (has_bit a.taken b)))

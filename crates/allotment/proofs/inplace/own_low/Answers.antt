@@ -31,9 +31,9 @@ returns-then-k-lt64 c =
     (λ b l. own-bit a.w a.taken b ∙ sym (ap (λ (t : Bool). t && (has_bit a.w b && not (has_bit a.taken b))) (lt-ltb b a.k l)))
     (λ b l g. ap (λ (t : Bool). t && (has_bit a.w b && not (has_bit a.taken b))) (le-ltb b a.k l))
 
-pub returns : goal.returns
+pub returns-else-k-lt64 : goal.returns-else-k-lt64
 unfolding own_low
-returns c =
+returns-else-k-lt64 c =
     let a = c.args in
     whole_word 64 (Bits.bit_xor a.w (Bits.bit_and a.w a.taken)) (λ b. ltb b a.k && (has_bit a.w b && not (has_bit a.taken b)))
     (own-lt 64 a.w a.taken (omega arith) (omega arith))

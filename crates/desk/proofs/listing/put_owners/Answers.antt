@@ -1,48 +1,25 @@
--- After i turns the first i owners are written with their commas, and the text of the others is left.
-use Rattle.lists.proofs.Chain.{start, finish, end, leftover, none, recast}
+-- After i turns the first owners are written with their commas, and the text of the others is left.
+use Rattle.lists.proofs.Chain.{start, finish, end, leftover, none, recast, retry}
+use Rattle.text.specs.Write.{decimal}
 use Rattle.desk.proofs.listing.Laws.{more-end, owners-none, owners-left, owners-turn}
-use mathlib.Core.Path.{sym, ◌∙◌}
+use mathlib.Core.Path.{sym, ap}
 use native.Mathlib.Omega.{arith}
 use Rattle.desk.proofs.listing.put_owners.Goals as goal
 
-pub returns-then-owners-eq0 : goal.returns-then-owners-eq0
-returns-then-owners-eq0 c = recast (sym (owners-none _ c.if-owners-eq0.true)) (none _ _)
+pub returns-in_default : goal.returns-in_default
+returns-in_default c = recast (sym (owners-none _ c.in_default.ensures.cases)) (none _ _)
 
-pub bounds-owners-0 : goal.bounds-owners-0
-bounds-owners-0 c = omega arith
+pub loop-owner-init : goal.loop-owner-init
+loop-owner-init c =
+    let q = owners-left _ _ c.in-Some.ensures.cases.0 c.requires (retry (ap decimal c.from.ensures) c.put_number-pos.ensures) in
+    start _ _ _ q.room
 
-pub overflow_cast-owners : goal.overflow_cast-owners
-overflow_cast-owners c = omega (arith, c.type_inv.owners 0)
-
-pub loop-i-init : goal.loop-i-init
-loop-i-init c =
-    let q = owners-left _ c.if-owners-eq0.false c.requires c.put_number-pos.ensures in
-    (omega arith, omega arith, start _ _ _ q.room)
-
-pub bounds-owners-i : goal.bounds-owners-i
-bounds-owners-i c = omega arith
-
-pub overflow_cast-owners-in-loop-i : goal.overflow_cast-owners-in-loop-i
-overflow_cast-owners-in-loop-i c = omega (arith, c.type_inv.owners c.loop-i.i)
-
-pub overflow_add-i : goal.overflow_add-i
-overflow_add-i c = omega arith
-
-pub loop-i-smaller : goal.loop-i-smaller
-loop-i-smaller c = omega arith
-
-pub loop-i-preserved : goal.loop-i-preserved
-loop-i-preserved c = (
-  omega arith,
-  omega arith,
-  owners-turn _ _ c.loop-i-test.true c.loop-i.invariant.2 c.put_byte-p.ensures
-      c.put_number-pos-in-loop-i.ensures,
-)
-
-pub shape_of-out : goal.shape_of-out
-shape_of-out c = c.loop-i.invariant.2.long ∙ c.put_number-pos.auto.out
+pub loop-owner-preserved : goal.loop-owner-preserved
+loop-owner-preserved c =
+    owners-turn _ _ c.loop-owner-test.true c.loop-owner.invariant c.put_byte-pos.ensures
+    (retry (ap decimal c.from-in-loop-owner.ensures) c.put_number-pos-in-loop-owner.ensures)
 
 pub returns : goal.returns
 returns c =
-    let q = owners-left _ c.if-owners-eq0.false c.requires c.put_number-pos.ensures in
-    finish _ q (end (leftover (more-end _ _ c.loop-i-test.false) c.loop-i.invariant.2))
+    let q = owners-left _ _ c.in-Some.ensures.cases.0 c.requires (retry (ap decimal c.from.ensures) c.put_number-pos.ensures) in
+    finish _ q (end (leftover (more-end _ _ c.loop-owner-test.false) c.loop-owner.invariant))

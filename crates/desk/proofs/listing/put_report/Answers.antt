@@ -1,5 +1,6 @@
 -- One test of room, then number, space, number and byte 10, side by side.
-use mathlib.Core.Path.{sym, ◌∙◌}
+use mathlib.Core.Path.{sym, ap, ◌∙◌}
+use Rattle.node.specs.Answers.{number, is_done}
 use Prim.Native.Nat.{◌+◌, ◌≤◌}
 use native.Mathlib.Omega.{arith}
 use lib.ListN.{length}
@@ -10,8 +11,8 @@ use Rattle.desk.specs.listing.Rows.{report_line}
 use Rattle.desk.proofs.listing.Laws.{tried-none, report-none, report-some, report-length}
 use Rattle.desk.proofs.listing.put_report.Goals as goal
 
-pub returns-then-is_done : goal.returns-then-is_done
-returns-then-is_done c = retry (sym (report-none _ _ (sym c.is_done.ensures ∙ c.if-is_done.true))) (tried-none _ _)
+pub returns-in_default : goal.returns-in_default
+returns-in_default c = retry (sym (report-none _ _ (ap is_done c.in_default.is))) (tried-none _ _)
 
 pub overflow_add-width : goal.overflow_add-width
 overflow_add-width c = omega (
@@ -19,7 +20,7 @@ overflow_add-width c = omega (
   c.width-2.ensures,
   c.width.ensures,
   digits-at-most 10 c.args.line,
-  digits-at-most 10 c.code-code.result,
+  digits-at-most 10 c.from-code.result,
 )
 
 pub overflow_add-width-2 : goal.overflow_add-width-2
@@ -28,7 +29,7 @@ overflow_add-width-2 c = omega (
   c.width-2.ensures,
   c.width.ensures,
   digits-at-most 10 c.args.line,
-  digits-at-most 10 c.code-code.result,
+  digits-at-most 10 c.from-code.result,
 )
 
 pub returns-then-not-has_room : goal.returns-then-not-has_room
@@ -39,9 +40,9 @@ returns-then-not-has_room c =
     let w = c.width-2 in
     let h = leb-false (a.at + (v.result + w.result + 2)) (length a.out.now) (sym r.ensures ∙ c.if-not-has_room.true)
     in
-    retry (report-some _ _ _ (sym c.is_done.ensures ∙ c.if-is_done.false) c.code-code.ensures)
-    (not-tried a.out.now (report_line a.line c.code-code.result) a.at
-    (omega (arith, h, w.ensures, v.ensures, report-length a.line c.code-code.result)))
+    retry (report-some _ _ _ (ap is_done c.in-Err.is) (c.from-code.ensures ∙ sym (ap number c.in-Err.is)))
+    (not-tried a.out.now (report_line a.line c.from-code.result) a.at
+    (omega (arith, h, w.ensures, v.ensures, report-length a.line c.from-code.result)))
 
 pub report-requires : goal.report-requires
 report-requires c =
@@ -51,7 +52,7 @@ report-requires c =
     let w = c.width-2 in
     let h = leb-true (a.at + (v.result + w.result + 2)) (length a.out.now)
     (sym r.ensures ∙ c.if-not-has_room.false) in
-    omega (arith, h, w.ensures, v.ensures, report-length a.line c.code-code.result)
+    omega (arith, h, w.ensures, v.ensures, report-length a.line c.from-code.result)
 
 pub returns : goal.returns
 returns c =
@@ -61,7 +62,7 @@ returns c =
     let w = c.width-2 in
     let h = leb-true (a.at + (v.result + w.result + 2)) (length a.out.now)
     (sym r.ensures ∙ c.if-not-has_room.false) in
-    let k : a.at + length (report_line a.line c.code-code.result) ≤ length a.out.now =
-    omega (arith, h, w.ensures, v.ensures, report-length a.line c.code-code.result) in
-    retry (report-some _ _ _ (sym c.is_done.ensures ∙ c.if-is_done.false) c.code-code.ensures)
+    let k : a.at + length (report_line a.line c.from-code.result) ≤ length a.out.now =
+    omega (arith, h, w.ensures, v.ensures, report-length a.line c.from-code.result) in
+    retry (report-some _ _ _ (ap is_done c.in-Err.is) (c.from-code.ensures ∙ sym (ap number c.in-Err.is)))
     (tried k c.report.ensures)

@@ -11,6 +11,3 @@ invariant-loop-i l =
     (l.i ≤ l.n) × (length l.out ≡ length l.initial.out)
     × (with_rows (l.n - l.i) l.i (store l.words l.bytes) l.k (page l.out l.at)
     ≡ with_rows l.n 0 (store l.words l.bytes) l.k (page l.initial.out l.to))
-
-abbrev pub decreases-loop-i : goal.decreases-loop-i
-decreases-loop-i l = l.n - l.i

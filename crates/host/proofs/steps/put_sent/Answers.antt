@@ -7,14 +7,13 @@ use lib.Dec.{leb}
 use lib.ListN.{length}
 use borrow.Author.Tests.{le-leb}
 use Rattle.lists.specs.Bytes.{written}
-use Rattle.lists.proofs.Chain.{written_none}
 use Rattle.allotment.specs.Allotment.{free, schedule_of}
 use Rattle.masks.specs.Bytes.{masks_size, masks_in, has_room}
 use Rattle.masks.specs.Air.{owners_to}
 use Rattle.node.specs.Core.{node_of, pair}
 use Rattle.node.specs.Figures.{sending}
 use Rattle.node.specs.Distribution.{sent_by}
-use Rattle.node.specs.declared.Answer.TheVariants.{Done}
+use Rattle.node.specs.Answers.{Done}
 use Rattle.node.specs.declared.Core.{Core}
 use Rattle.node.specs.Model.{Node}
 use Rattle.node.specs.Model.{Versioned}
@@ -26,11 +25,6 @@ use Rattle.host.proofs.Answers.{in-room}
 use Rattle.host.proofs.steps.put_sent.Goals as goal
 
 module _ (n : Node) (out : List ℕ) where
-  -- a node that doesn't send writes nothing
-  silent : sending n.phase ≡ false → out ≡ output (close_room n out) (close_bytes n) out
-  silent f = sym (ap (λ (t : Bool). output (cond t (room_answer schedule_size out) Done) (cond t (schedule_bytes (sent_by n)) []) out) f
-      ∙ written_none out 0)
-
   -- one that sends writes version and schedule where there is room
   sends : {m : List ℕ} {q : Versioned} → sending n.phase ≡ true → q ≡ sent_by n
       → m ≡ cond (leb schedule_size (length out)) (written out 0 (schedule_bytes q)) out → m ≡ output (close_room n out) (close_bytes n) out
@@ -43,13 +37,8 @@ module _ (n : Node) (out : List ℕ) where
 abbrev shown : Core → List ℕ → Node
 shown c l = node_of c (pair (schedule_of (owners_to (masks_in l at_schedule) c.setup.config.nodes)) free)
 
-pub returns-then-not-is_sending : goal.returns-then-not-is_sending
-returns-then-not-is_sending c =
-    silent (shown c.args.next c.args.area.now) c.args.out.now
-    (sym c.is_sending.ensures ∙ c.if-not-is_sending.true)
-
-pub returns : goal.returns
-returns c =
+pub returns-then-is_sending : goal.returns-then-is_sending
+returns-then-is_sending c =
     let l = c.args.area.now in
     let k : at_schedule + masks_size ≤ length l = omega (arith, c.requires) in
     let r : has_room l at_schedule ≡ true = le-leb _ _ k in
@@ -57,7 +46,7 @@ returns c =
     let q : Versioned = record { version = c.args.next.version; schedule = (shown c.args.next l).schedule } in
     sends (shown c.args.next l) c.args.out.now
     (sym c.is_sending.ensures
-    ∙ c.if-not-is_sending.false)
+    ∙ c.if-is_sending.true)
     (sym (sends-so (shown c.args.next l)))
     (c.tell.ensures
     ∙ ap (λ (b : Bool). cond (b && t) (written c.args.out.now 0 (schedule_bytes q)) c.args.out.now) r)

@@ -13,8 +13,8 @@ use Rattle.masks.specs.Air.{owners_to}
 use Rattle.masks.proofs.Told.{length-told}
 use Rattle.node.specs.Core.{node_of, pair}
 use Rattle.node.proofs.Made.{sends-so}
-use Rattle.node.specs.declared.Answer.{Answer}
-use Rattle.node.specs.declared.Answer.TheVariants.{Done, NoRoom}
+use Rattle.node.specs.Answers.{Answer}
+use Rattle.node.specs.Answers.{Done, NoRoom}
 use Rattle.node.specs.Model.{Versioned}
 use Rattle.node.specs.Distribution.{sent_by}
 use Rattle.node.specs.declared.Core.{Core}
@@ -36,14 +36,12 @@ reports : {s0 s1 s2 s3 flags place small : List ℕ} {i1 i2 i3 : ℕ} {v : Versi
     → v ≡ sent_by n → s0 ≡ cond (leb schedule_size (length l)) (written l 0 (schedule_bytes v)) l
     → flags ≡ bytes32 n.flags → Tried s0 schedule_size flags i1 s1 → place ≡ bytes32 n.epoch.place → Tried s1 88 place i2 s2
     → small ≡ small_of n → Tried s2 92 small i3 s3
-    → (Done ≡ room_answer report_size l) × (s3 ≡ output (room_answer report_size l) (report n) l)
+    → s3 ≡ output (room_answer report_size l) (report n) l
 reports l n h k e t0 e1 t1 e2 t2 e3 t3 =
     let r : room_answer report_size l ≡ Done = hit _ _ _ (le-leb _ _ h) in
-    let q : schedule_size ≤ length l = omega arith in (
-      sym r,
-      report-is l n h k (t0 ∙ hit _ _ _ (le-leb _ _ q) ∙ ap (λ (x : Versioned). written l 0 (schedule_bytes x)) e) (retry e1 t1)
-          (retry e2 t2) (retry e3 t3) ∙ sym (ap (λ (x : Answer). output x (report n) l) r),
-    )
+    let q : schedule_size ≤ length l = omega arith in
+    report-is l n h k (t0 ∙ hit _ _ _ (le-leb _ _ q) ∙ ap (λ (x : Versioned). written l 0 (schedule_bytes x)) e) (retry e1 t1)
+    (retry e2 t2) (retry e3 t3) ∙ sym (ap (λ (x : Answer). output x (report n) l) r)
 
 -- the node that is told, by the area that holds its schedule
 abbrev shown : Core → List ℕ → Node
@@ -53,15 +51,8 @@ long : (c : Core) (l : List ℕ) → length (owners_of (shown c l).schedule) ≡
 long c l = ap length (owners-made (owners_to (masks_in l at_schedule) c.setup.config.nodes))
     ∙ length-told (masks_in l at_schedule) c.setup.config.nodes
 
-pub returns-then-out-lt-REPORT : goal.returns-then-out-lt-REPORT
-returns-then-out-lt-REPORT c =
-    let r : room_answer report_size c.args.out.now ≡ NoRoom = skip _ _ _ _ (lt-leb _ _ c.if-out-lt-REPORT.true) refl in record {
-      value = sym r;
-      out_after = (refusal NoRoom _ r refl _ _).1;
-    }
-
-pub returns : goal.returns
-returns c =
+pub returns-clause-out_after : goal.returns-clause-out_after
+returns-clause-out_after c =
     let l = c.args.area.now in
     let out = c.args.out.now in
     let n = shown c.args.c l in
@@ -69,13 +60,10 @@ returns c =
     let r : has_room l at_schedule ≡ true = le-leb _ _ k in
     let t = leb schedule_size (length out) in
     let q : Versioned = record { version = c.args.c.version; schedule = n.schedule } in
-    let whole = reports out n c.if-out-lt-REPORT.false (long c.args.c l) (sym (sends-so n))
+    reports out n c.if-out-lt-REPORT.false (long c.args.c l) (sym (sends-so n))
     (c.tell.ensures ∙ ap (λ (b : Bool). cond (b && t) (written out 0 (schedule_bytes q)) out) r)
-    c.word_bytes-flags.ensures
+    c.word_bytes.ensures
     c.put_bytes.ensures
-    c.word_bytes-place.ensures
+    c.word_bytes-2.ensures
     c.put_bytes-2.ensures
-    c.small_bytes-small.ensures c.put_bytes-3.ensures in record {
-      value = whole.0;
-      out_after = whole.1;
-    }
+    c.small_bytes.ensures c.put_bytes-3.ensures

@@ -5,8 +5,8 @@ use Prim.Native.Nat.{ℕ}
 use Rattle.node.specs.Answers.{is_done}
 use Rattle.node.specs.Core.{bare}
 use Rattle.node.specs.Negotiation.{packet_of, send_answer}
-use Rattle.node.specs.declared.Answer.{Answer}
-use Rattle.node.specs.declared.Answer.TheVariants.{Done, NoRoom}
+use Rattle.node.specs.Answers.{Answer}
+use Rattle.node.specs.Answers.{Done, NoRoom}
 use Rattle.node.specs.Model.{Node}
 use Rattle.node.specs.declared.Packet.{Packet}
 use Rattle.node.specs.declared.Sent.{Sent}
@@ -14,7 +14,7 @@ use Rattle.node.proofs.Bare.{send-phase}
 use Rattle.wire.specs.Layout.{packet_size, packet_bytes}
 use Rattle.wire.specs.Reads.{placed, has_part}
 use Rattle.host.specs.Calls.{room_answer, output, sent_answer}
-use Rattle.host.proofs.Answers.{then_next, then-stands, refusal, in-room}
+use Rattle.host.proofs.Answers.{passed-on, then_next, then-stands, refusal, in-room}
 use Rattle.host.proofs.steps.send_into.Goals as goal
 
 -- a node's packet is refused as the node refuses it, or written where there is room
@@ -34,25 +34,20 @@ module _ (n : Node) (l : List ℕ) {y : Answer} (e : y ≡ send_answer n) where
             ∙ ap (λ (x : Answer). output x (packet_bytes (packet_of n)) l) z,
       )
 
-pub returns-then-not-is_done : goal.returns-then-not-is_done
-returns-then-not-is_done c =
-    let whole = refused-send (bare c.args.c) c.args.out.now
-    (c.negotiation_answer-answer.ensures ∙ sym (send-phase (bare c.args.c)))
-    (sym c.is_done.ensures ∙ c.if-not-is_done.true) in record {
-      value = whole.0;
+pub returns-in_err-negotiation_answer : goal.returns-in_err-negotiation_answer
+returns-in_err-negotiation_answer c =
+    let whole = refused-send (bare c.args.c) c.args.out.now (c.negotiation_answer.ensures ∙ sym (send-phase (bare c.args.c)))
+    (ap is_done c.in_err-negotiation_answer.was) in record {
+      value = passed-on _ c.from_residual.ensures.1 ∙ sym c.in_err-negotiation_answer.was ∙ whole.0;
       out_after = whole.1;
     }
 
 pub returns-then-not-put_packet : goal.returns-then-not-put_packet
 returns-then-not-put_packet c =
     let w = c.put_packet.ensures in
-    let whole = sends (bare c.args.c) c.args.out.now
-    (c.negotiation_answer-answer.ensures
-    ∙ sym (send-phase (bare c.args.c)))
-    (sym c.is_done.ensures
-    ∙ c.if-not-is_done.false)
-    (ap (λ (s : Sent). s.packet) c.send-s.ensures) w.value w.area_after
-    (c.if-not-put_packet.true) in record {
+    let whole = sends (bare c.args.c) c.args.out.now (c.negotiation_answer.ensures ∙ sym (send-phase (bare c.args.c)))
+    (ap is_done c.in_ok-negotiation_answer.was) (ap (λ (s : Sent). s.packet) c.send.ensures) w.value w.area_after
+    c.if-not-put_packet.true in record {
       value = whole.0;
       out_after = whole.1;
     }
@@ -60,13 +55,9 @@ returns-then-not-put_packet c =
 pub returns : goal.returns
 returns c =
     let w = c.put_packet.ensures in
-    let whole = sends (bare c.args.c) c.args.out.now
-    (c.negotiation_answer-answer.ensures
-    ∙ sym (send-phase (bare c.args.c)))
-    (sym c.is_done.ensures
-    ∙ c.if-not-is_done.false)
-    (ap (λ (s : Sent). s.packet) c.send-s.ensures) w.value w.area_after
-    (c.if-not-put_packet.false) in record {
+    let whole = sends (bare c.args.c) c.args.out.now (c.negotiation_answer.ensures ∙ sym (send-phase (bare c.args.c)))
+    (ap is_done c.in_ok-negotiation_answer.was) (ap (λ (s : Sent). s.packet) c.send.ensures) w.value w.area_after
+    c.if-not-put_packet.false in record {
       value = whole.0;
       out_after = whole.1;
     }

@@ -1,7 +1,9 @@
+use mathlib.Core.Path.{ap, ◌∙◌}
+use Rattle.node.specs.Answers.{number}
 use Rattle.hydra_c.proofs.calls.hydra_begin.Goals as goal
 
 pub returns-clause-value : goal.returns-clause-value
-returns-clause-value c = c.hydra_begin.ensures.value
+returns-clause-value c = c.code.ensures ∙ ap number c.hydra_begin.ensures.value
 
 pub returns-clause-area_after : goal.returns-clause-area_after
 returns-clause-area_after c = c.hydra_begin.ensures.area_after

@@ -1,7 +1,9 @@
+use mathlib.Core.Path.{ap, ◌∙◌}
+use Rattle.node.specs.Answers.{number}
 use Rattle.hydra_c.proofs.calls.hydra_send.Goals as goal
 
 pub returns-clause-value : goal.returns-clause-value
-returns-clause-value c = c.hydra_send.ensures.value
+returns-clause-value c = c.code.ensures ∙ ap number c.hydra_send.ensures.value
 
 pub returns-clause-out_after : goal.returns-clause-out_after
 returns-clause-out_after c = c.hydra_send.ensures.out_after

@@ -1,4 +1,8 @@
+use mathlib.Core.Path.{ap, ◌∙◌}
+use Rattle.node.specs.Answers.{number}
 use Rattle.hydra_desk_c.proofs.one.hydra_site_event.Goals as goal
 
 pub returns : goal.returns
-returns c = c.hydra_site_event.ensures
+returns c =
+    let o = c.hydra_site_event-answer.ensures in
+    (c.code.ensures ∙ ap number o.value, o.words_after, o.bytes_after, o.reports_after, o.kept_after)

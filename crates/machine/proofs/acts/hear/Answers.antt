@@ -1,5 +1,5 @@
 use mathlib.Core.Path.{◌≡◌, refl, sym, ap, ◌∙◌}
-use Prim.Native.Nat.{ℕ, ◌-◌}
+use Prim.Native.Nat.{ℕ}
 use Rattle.words.proofs.Tests.{hit, skip}
 use Rattle.node.specs.Core.{core_of, bare}
 use Rattle.node.specs.Negotiation.{heard_node}
@@ -24,11 +24,11 @@ returns-then-no_node c =
       bytes_after = ap (λ (x : Store). x.bytes) e;
     }
 
-pub core_at-c-requires : goal.core_at-c-requires
-core_at-c-requires c =
+pub invariant_of-core : goal.invariant_of-core
+invariant_of-core c =
     let a = c.args in
     let h = at_place (store a.words.now a.bytes.now) a.j (sym c.no_node.ensures ∙ c.if-no_node.false) in
-    (c.node_index-i.ensures.within, h.0, h.1.0)
+    record { long = (h.0, h.1.0) }
 
 pub put_next-requires : goal.put_next-requires
 put_next-requires c =
@@ -44,7 +44,7 @@ returns c =
     let i = c.node_index-i.result in
     let p = sym c.no_node.ensures ∙ c.if-no_node.false in
     let e = at-node-index (config_in s) a.j c.node_index-i.ensures.value (at_place s a.j p).1.1 in
-    let next = c.hear.ensures ∙ ap (λ (x : Core). core_of (heard_node (bare x) a.q)) c.core_at-c.ensures
+    let next = c.hear.ensures ∙ ap (λ (x : Core). core_of (heard_node (bare x) a.q)) c.core-c.ensures
     ∙ heard-core (node_in s i) a.q in
     let z : next_put s i c.hear.result ≡ heard_put s a.j a.q =
     next-put s i (heard_node (node_in s i) a.q) next

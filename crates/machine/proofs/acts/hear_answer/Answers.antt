@@ -16,12 +16,12 @@ pub returns-then-no_node : goal.returns-then-no_node
 unfolding hear_read
 returns-then-no_node c = sym (hit _ _ _ (sym c.no_node.ensures ∙ c.if-no_node.true))
 
-pub core_at-c-requires : goal.core_at-c-requires
-core_at-c-requires c =
+pub invariant_of-core : goal.invariant_of-core
+invariant_of-core c =
     let a = c.args in
     let s = store a.words.now a.bytes.now in
     let h = at_place s a.j (sym c.no_node.ensures ∙ c.if-no_node.false) in
-    (c.node_index.ensures.within, h.0, h.1.0)
+    record { long = (h.0, h.1.0) }
 
 pub returns : goal.returns
 unfolding hear_read
@@ -30,5 +30,5 @@ returns c =
     let s = store a.words.now a.bytes.now in
     let p = sym c.no_node.ensures ∙ c.if-no_node.false in
     let e = at-node-index (config_in s) a.j c.node_index.ensures.value (at_place s a.j p).1.1 in
-    c.hear_answer.ensures ∙ ap (λ (x : Core). hear_answer (bare x) a.q) (c.core_at-c.ensures ∙ ap (core_in s) e)
+    c.hear_answer.ensures ∙ ap (λ (x : Core). hear_answer (bare x) a.q) (c.core-c.ensures ∙ ap (core_in s) e)
     ∙ hear-bare (node_in s (a.j - 1)) a.q ∙ sym (skip _ _ _ _ p refl)

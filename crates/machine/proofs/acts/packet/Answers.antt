@@ -18,12 +18,12 @@ unfolding packet_sent
 returns-then-no_node c =
     c.no_packet.ensures ∙ sym (hit _ _ _ (sym c.no_node.ensures ∙ c.if-no_node.true))
 
-pub core_at-c-requires : goal.core_at-c-requires
-core_at-c-requires c =
+pub invariant_of-core : goal.invariant_of-core
+invariant_of-core c =
     let a = c.args in
     let s = store a.words.now a.bytes.now in
     let h = at_place s a.j (sym c.no_node.ensures ∙ c.if-no_node.false) in
-    (c.node_index.ensures.within, h.0, h.1.0)
+    record { long = (h.0, h.1.0) }
 
 pub returns : goal.returns
 unfolding packet_sent
@@ -33,5 +33,5 @@ returns c =
     let p = sym c.no_node.ensures ∙ c.if-no_node.false in
     let e = at-node-index (config_in s) a.j c.node_index.ensures.value (at_place s a.j p).1.1 in
     ap (λ (x : Sent). x.packet) c.send-s.ensures
-    ∙ ap (λ (x : Core). packet_of (bare x)) (c.core_at-c.ensures ∙ ap (core_in s) e) ∙ packet-bare (node_in s (a.j - 1))
+    ∙ ap (λ (x : Core). packet_of (bare x)) (c.core-c.ensures ∙ ap (core_in s) e) ∙ packet-bare (node_in s (a.j - 1))
     ∙ sym (skip _ _ _ _ p refl)

@@ -40,8 +40,8 @@ returns c =
     let o = node_in s a.h in
     let next = c.take-o.result.core in
     let up = c.is_up-up.result in
-    let core = c.core_at-c.ensures in
-    let made = taken-core n core o (c.version_at.ensures ∙ version-there s a.h)
+    let core = c.core-c.ensures in
+    let made = taken-core n core o (c.version.ensures ∙ version-there s a.h)
     c.take-o.ensures in
     let handed = core ∙ sym (ap core_of (handed-node s i a.h p.0 p.1 p.3)) in
     let front = c.put_front.ensures

@@ -1,5 +1,5 @@
 use mathlib.Core.Path.{◌≡◌, refl, sym, ap, ◌∙◌}
-use Prim.Native.Nat.{ℕ, ◌-◌}
+use Prim.Native.Nat.{ℕ}
 use Rattle.words.proofs.Tests.{hit, skip}
 use Rattle.machine.specs.Layout.{Store, store, config_in}
 use Rattle.machine.specs.Written.{demanded}

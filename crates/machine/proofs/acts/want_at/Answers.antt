@@ -12,4 +12,4 @@ returns c =
     let a = c.args in
     c.put_demand.ensures
     ∙ ap (λ (k : ℕ). set a.bytes.now (node_bytes_at a.i + 1) k)
-    (ap (λ (x : Core). x.demand) c.want-next.ensures ∙ (wants (bare c.core_at-c.result) a.d).demand)
+    (ap (λ (x : Core). x.demand) c.want-next.ensures ∙ (wants (bare c.core-c.result) a.d).demand)

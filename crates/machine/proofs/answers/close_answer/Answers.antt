@@ -1,6 +1,6 @@
 use mathlib.Core.Path.{refl, sym, ap, ◌∙◌}
 use mathlib.Core.Bool.{Bool, cond}
-use Rattle.node.specs.declared.Answer.TheVariants.{Done, WrongPhase}
+use Rattle.node.specs.Answers.{Done, WrongPhase}
 use Rattle.site.specs.Answers.{site_close}
 use Rattle.machine.specs.Layout.{store}
 use Rattle.machine.proofs.steps.Asked.{phase}
@@ -10,5 +10,5 @@ pub returns : goal.returns
 unfolding site_close
 returns c =
     let a = c.args in
-    let s = store a.words.now a.bytes.now in
-    c.in_phase.ensures ∙ ap (λ (b : Bool). cond b Done WrongPhase) (sym (phase s c.header_at-k.ensures refl))
+    let s = store a.m.words.now a.m.bytes.now in
+    c.in_phase.ensures ∙ ap (λ (b : Bool). cond b Done WrongPhase) (sym (phase s c.header-k.ensures refl))

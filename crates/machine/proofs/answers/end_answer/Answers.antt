@@ -1,6 +1,6 @@
 use mathlib.Core.Path.{◌≡◌, refl, sym, ap, ◌∙◌}
 use mathlib.Core.Bool.{Bool, true, false, not, cond}
-use Rattle.node.specs.declared.Answer.TheVariants.{Done, WrongPhase}
+use Rattle.node.specs.Answers.{Done, WrongPhase}
 use Rattle.site.specs.Answers.{site_end}
 use Rattle.machine.specs.Layout.{store, site_in}
 use Rattle.machine.proofs.steps.Asked.{phase}
@@ -14,6 +14,6 @@ pub returns : goal.returns
 unfolding site_end
 returns c =
     let a = c.args in
-    let s = store a.words.now a.bytes.now in
-    c.in_phase.ensures ∙ ap (λ (b : Bool). cond (not b) Done WrongPhase) (sym (phase s c.header_at-k.ensures refl))
+    let s = store a.m.words.now a.m.bytes.now in
+    c.in_phase.ensures ∙ ap (λ (b : Bool). cond (not b) Done WrongPhase) (sym (phase s c.header-k.ensures refl))
     ∙ turned-about (site_in s).negotiates

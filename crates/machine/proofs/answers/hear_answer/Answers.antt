@@ -9,6 +9,6 @@ use Rattle.machine.proofs.answers.hear_answer.Goals as goal
 pub returns : goal.returns
 returns c =
     let a = c.args in
-    let s = site_in (store a.words.now a.bytes.now) in
+    let s = site_in (store a.m.words.now a.m.bytes.now) in
     c.heard_answer.ensures ∙ ap (λ (i : ℕ). site_heard s (part_of a.area.now i) a.j a.p) c.part_of.ensures
     ∙ heard-there s a.area.now a.j a.p

@@ -1,6 +1,5 @@
 -- The tests in their order: each refusal is the definition's at the first test that is met.
 use mathlib.Core.Path.{◌≡◌, refl, sym, ap, ◌∙◌}
-use Prim.Native.Nat.{◌-◌}
 use mathlib.Core.Bool.{Bool, true, false, not, cond, ◌||◌}
 use mathlib.Core.Path.{ap₂}
 use Rattle.words.proofs.Tests.{hit, skip, or-neither, or-back}
@@ -9,7 +8,7 @@ use Rattle.machine.proofs.steps.Asked.{outs, phase, live, by-phase, the-phase}
 use Rattle.site.specs.Answers.{site_take}
 use Rattle.node.specs.Figures.{sending}
 use Rattle.site.specs.Members.{member_at}
-use Rattle.node.specs.declared.Answer.TheVariants.{WrongSender}
+use Rattle.node.specs.Answers.{WrongSender}
 use Rattle.node.specs.Model.{Node}
 use Rattle.node.specs.Distribution.{may_take, take_answer}
 use Rattle.node.proofs.Bare.{take-phase}
@@ -20,8 +19,8 @@ pub returns-then-outside : goal.returns-then-outside
 unfolding site_take
 returns-then-outside c =
     let a = c.args in
-    let s = store a.words.now a.bytes.now in
-    let w = outs s c.header_at-k.ensures a.j a.g c.outside.ensures
+    let s = store a.m.words.now a.m.bytes.now in
+    let w = outs s c.header-k.ensures a.j a.g c.outside.ensures
     c.outside-2.ensures c.if-outside.true in
     sym (hit _ _ _ w)
 
@@ -29,19 +28,19 @@ pub returns-then-k : goal.returns-then-k
 unfolding site_take
 returns-then-k c =
     let a = c.args in
-    let s = store a.words.now a.bytes.now in
-    let w = outs s c.header_at-k.ensures a.j a.g c.outside.ensures
+    let s = store a.m.words.now a.m.bytes.now in
+    let w = outs s c.header-k.ensures a.j a.g c.outside.ensures
     c.outside-2.ensures c.if-outside.false in
-    sym (skip _ _ _ _ w (hit _ _ _ (phase s c.header_at-k.ensures c.if-k.true)))
+    sym (skip _ _ _ _ w (hit _ _ _ (phase s c.header-k.ensures c.if-k.true)))
 
 pub returns-then-live : goal.returns-then-live
 unfolding site_take
 returns-then-live c =
     let a = c.args in
-    let s = store a.words.now a.bytes.now in
-    let w = outs s c.header_at-k.ensures a.j a.g c.outside.ensures c.outside-2.ensures c.if-outside.false in
+    let s = store a.m.words.now a.m.bytes.now in
+    let w = outs s c.header-k.ensures a.j a.g c.outside.ensures c.outside-2.ensures c.if-outside.false in
     let v = or-neither _ _ w in
-    sym (skip _ _ _ _ w (skip _ _ _ _ (phase s c.header_at-k.ensures c.if-k.false)
+    sym (skip _ _ _ _ w (skip _ _ _ _ (phase s c.header-k.ensures c.if-k.false)
     (hit _ _ _ (ap₂ (λ (x y : Bool). not x || not y) (live s a.j v.0 refl c.live.ensures refl)
     (live s a.g v.1 refl c.live-2.ensures refl) ∙ c.if-live.true))))
 
@@ -49,8 +48,8 @@ pub returns-then-not-is_sending : goal.returns-then-not-is_sending
 unfolding site_take
 returns-then-not-is_sending c =
     let a = c.args in
-    let s = store a.words.now a.bytes.now in
-    let k = c.header_at-k.ensures in
+    let s = store a.m.words.now a.m.bytes.now in
+    let k = c.header-k.ensures in
     let w = outs s k a.j a.g c.outside.ensures
     c.outside-2.ensures
     c.if-outside.false in
@@ -73,8 +72,8 @@ unfolding site_take
 returns c =
     let a = c.args
     in
-    let s = store a.words.now a.bytes.now in
-    let k = c.header_at-k.ensures in
+    let s = store a.m.words.now a.m.bytes.now in
+    let k = c.header-k.ensures in
     let w = outs s k a.j a.g c.outside.ensures c.outside-2.ensures
     c.if-outside.false in
     let v = or-neither _ _ w in

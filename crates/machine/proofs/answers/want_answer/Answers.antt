@@ -3,11 +3,10 @@ use mathlib.Core.Bool.{Bool, true, false, cond}
 use lib.Dec.{ltb}
 use Rattle.words.proofs.Tests.{never}
 use Rattle.allotment.specs.Allotment.{top_request}
-use Rattle.node.specs.Answers.{is_done}
-use Rattle.node.specs.declared.Answer.{Answer}
-use Rattle.node.specs.declared.Answer.TheVariants.{Done, OutOfRange}
+use Rattle.node.specs.Answers.{Answer, Done, OutOfRange, is_done}
 use Rattle.node.proofs.Bounds.{want-so}
 use Rattle.site.specs.Answers.{site_want, site_crash}
+use Rattle.machine.proofs.Refused.{handed}
 use Rattle.machine.proofs.answers.want_answer.Goals as goal
 
 -- the demand's own test first, then the rest
@@ -19,17 +18,17 @@ passed : (t : Bool) (x : Answer) → is_done (cond t OutOfRange Done) ≡ true �
 passed true x f = never (sym f)
 passed false x f = refl
 
-pub returns-then-not-is_done : goal.returns-then-not-is_done
+pub returns-in_err-want_answer : goal.returns-in_err-want_answer
 unfolding site_want
-returns-then-not-is_done c =
+returns-in_err-want_answer c =
     let d = c.args.d in
-    let y = c.want_answer-first.ensures ∙ want-so d in
-    y ∙ refused (ltb top_request d) _ (sym (ap is_done y) ∙ sym c.is_done.ensures ∙ c.if-not-is_done.true)
+    let y = c.want_answer.ensures ∙ want-so d in
+    handed c.from_residual.result c.from_residual.ensures.1 ∙ sym c.in_err-want_answer.was ∙ y
+    ∙ refused (ltb top_request d) _ (sym (ap is_done y) ∙ ap is_done c.in_err-want_answer.was)
 
 pub returns : goal.returns
 unfolding site_want site_crash
 returns c =
     let d = c.args.d in
-    let y = c.want_answer-first.ensures ∙ want-so d in
-    c.crash_answer.ensures ∙ passed (ltb top_request d) _
-    (sym (ap is_done y) ∙ sym c.is_done.ensures ∙ c.if-not-is_done.false)
+    let y = c.want_answer.ensures ∙ want-so d in
+    c.crash_answer.ensures ∙ passed (ltb top_request d) _ (sym (ap is_done y) ∙ ap is_done c.in_ok-want_answer.was)

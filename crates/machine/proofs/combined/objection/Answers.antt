@@ -2,37 +2,23 @@ use mathlib.Core.Path.{refl, sym, ap, ◌∙◌}
 use Rattle.words.proofs.Tests.{hit, skip}
 use Rattle.site.specs.declared.SiteHeader.{SiteHeader}
 use Rattle.windows.specs.Windows.{list_ok}
-use Rattle.windows.specs.Copies.{windows_in}
 use Rattle.machine.specs.Layout.{store}
-use Rattle.machine.proofs.Whole.{as-header}
 use Rattle.machine.proofs.combined.objection.Goals as goal
-
-pub returns-then-is_valid : goal.returns-then-is_valid
-returns-then-is_valid c = sym (hit _ _ _ (sym c.is_end.ensures ∙ c.if-is_end.true)
-    ∙ hit _ _ _ (sym c.is_valid.ensures ∙ c.if-is_valid.true))
-
-pub returns-then-is_end : goal.returns-then-is_end
-returns-then-is_end c = sym (hit _ _ _ (sym c.is_end.ensures ∙ c.if-is_end.true)
-    ∙ skip _ _ _ _ (sym c.is_valid.ensures ∙ c.if-is_valid.false) refl)
 
 pub returns-then-list_ok : goal.returns-then-list_ok
 returns-then-list_ok c =
     let a = c.args in
-    let s = store a.words.now a.bytes.now in
-    let k = c.header-k.ensures
-    ∙ as-header s c.requires.0
-    c.requires.1 in
+    let s = store a.m.words.now a.m.bytes.now in
+    let k = c.header-k.ensures in
     sym (skip _ _ _ _ (sym c.is_end.ensures ∙ c.if-is_end.false)
-    (hit _ _ _ (sym (ap (λ (x : SiteHeader). list_ok x.config.nodes a.day.length (windows_in a.w.now)) k)
+    (hit _ _ _ (sym (ap (λ (x : SiteHeader). list_ok x.config.nodes a.day.length a.w.now) k)
     ∙ sym c.list_ok.ensures ∙ c.if-list_ok.true)))
 
 pub returns : goal.returns
 returns c =
     let a = c.args in
-    let s = store a.words.now a.bytes.now in
-    let k = c.header-k.ensures
-    ∙ as-header s c.requires.0
-    c.requires.1 in
+    let s = store a.m.words.now a.m.bytes.now in
+    let k = c.header-k.ensures in
     sym (skip _ _ _ _ (sym c.is_end.ensures ∙ c.if-is_end.false)
-    (skip _ _ _ _ (sym (ap (λ (x : SiteHeader). list_ok x.config.nodes a.day.length (windows_in a.w.now)) k)
+    (skip _ _ _ _ (sym (ap (λ (x : SiteHeader). list_ok x.config.nodes a.day.length a.w.now) k)
     ∙ sym c.list_ok.ensures ∙ c.if-list_ok.false) refl))

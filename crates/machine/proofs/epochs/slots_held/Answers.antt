@@ -1,42 +1,15 @@
-use mathlib.Core.Path.{refl, ◌∙◌}
-use Prim.Native.Nat.{◌-◌}
-use native.Mathlib.Omega.{arith}
-use Rattle.lists.proofs.Laws.{fill_none, fill_more, fill_end}
-use Rattle.machine.specs.Layout.{store, site_in}
-use Rattle.tally.specs.Claims.{held_by}
-use Rattle.tally.specs.Ends.{schedules_of}
+use mathlib.Core.Path.{◌∙◌}
+use Prim.Native.Nat.{ℕ, ◌+◌}
+use borrow.Author.Rules.{rules}
+use Rattle.lists.proofs.Laws.{tab-ext}
+use Rattle.machine.specs.Layout.{store}
+use Rattle.machine.specs.Loading.{slots_read}
+use Rattle.machine.proofs.Made.{made}
 use Rattle.machine.proofs.combined.Held.{slots_read_lem}
 use Rattle.machine.proofs.epochs.slots_held.Goals as goal
 
-pub loop-i-init : goal.loop-i-init
-loop-i-init c = (omega arith, refl, fill_none _ _)
-
-pub overflow_cast-i : goal.overflow_cast-i
-overflow_cast-i c = omega arith
-
-pub overflow_add-i : goal.overflow_add-i
-overflow_add-i c = omega arith
-
-pub bounds-l-i : goal.bounds-l-i
-bounds-l-i c = omega arith
-
-pub overflow_step-i : goal.overflow_step-i
-overflow_step-i c = omega arith
-
-pub loop-i-smaller : goal.loop-i-smaller
-loop-i-smaller c = omega arith
-
-pub loop-i-preserved : goal.loop-i-preserved
-loop-i-preserved c =
-    let l = c.loop-i in
-    let s = store c.args.words.now c.args.bytes.now in (
-      omega arith,
-      refl,
-      fill_more _ (held_by (schedules_of (site_in s))) _ _ _ (omega arith) l.invariant.2
-          (c.slots_held.ensures ∙ slots_read_lem s l.i c.requires.0 c.requires.1 (omega arith)),
-    )
-
 pub returns : goal.returns
 returns c =
-    let s = store c.args.words.now c.args.bytes.now in
-    fill_end _ 32 (held_by (schedules_of (site_in s))) _ _ c.loop-i.invariant.2 (omega arith) (omega arith)
+    let s = store c.args.m.words.now c.args.m.bytes.now in
+    made _ _ (λ (i : ℕ). slots_read s (i + 1)) 0 32 (λ i y q l k. search rules) _ c.from_fn.ensures.items
+    ∙ tab-ext 32 _ _ (λ i l. slots_read_lem s i c.args.m.long.0 c.args.m.long.1 l)

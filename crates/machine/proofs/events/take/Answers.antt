@@ -1,7 +1,6 @@
 use mathlib.Core.Path.{ap, ◌∙◌}
-use Rattle.site.proofs.Accepted.{take-accepted}
-use Rattle.machine.specs.Layout.{Store, store, site_in}
-use Rattle.machine.proofs.Seats.{in-config}
+use Rattle.machine.specs.Layout.{Store, store}
+use Rattle.machine.proofs.Whole.{at_place}
 use Rattle.machine.proofs.steps.Acts.{taken-put}
 use Rattle.machine.proofs.events.take.Goals as goal
 
@@ -9,9 +8,9 @@ pub returns : goal.returns
 returns c =
     let a = c.args in
     let s = store a.words.now a.bytes.now in
-    let p = c.requires in
-    let q = take-accepted (site_in s) a.j a.g p.2 in
-    let z = taken-put s p.0 p.1 a.j (in-config s a.j q.taker) a.g (in-config s a.g q.sender) in record {
+    let p = at_place s a.j c.requires.0 in
+    let q = at_place s a.g c.requires.1 in
+    let z = taken-put s p.0 p.1.0 a.j p.1.1 a.g q.1.1 in record {
       words_after = c.take.ensures.words_after ∙ ap (λ (x : Store). x.words) z;
       bytes_after = c.take.ensures.bytes_after ∙ ap (λ (x : Store). x.bytes) z;
     }

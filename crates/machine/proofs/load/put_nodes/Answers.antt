@@ -1,6 +1,5 @@
 -- After i turns the first i nodes are loaded.
 use mathlib.Core.Path.{refl, ap, ◌∙◌}
-use Prim.Native.Nat.{◌-◌}
 use native.Mathlib.Omega.{arith}
 use Prim.Native.Nat.{min}
 use Rattle.lists.proofs.Laws.{iter-none}

@@ -1,5 +1,4 @@
 use mathlib.Core.Path.{sym, ◌∙◌}
-use Prim.Native.Nat.{◌-◌}
 use Rattle.machine.specs.Layout.{store}
 use Rattle.machine.proofs.Whole.{at_place, none-live, live-read}
 use Rattle.machine.proofs.look.is_live.Goals as goal

@@ -1,6 +1,5 @@
 use mathlib.Core.Path.{◌≡◌}
-use Prim.Native.Nat.{◌≤◌, ◌<◌, ◌-◌, ◌^◌}
-use lib.Bits
+use Prim.Native.Nat.{◌≤◌, ◌<◌, ◌^◌}
 use Rattle.masks.specs.Bytes.{masks_in}
 use Rattle.masks.specs.Inner.{taken}
 use Rattle.machine.proofs.read.own_slots.Given as goal

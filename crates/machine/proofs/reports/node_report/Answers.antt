@@ -7,7 +7,7 @@ pub returns-then-not-reports : goal.returns-then-not-reports
 returns-then-not-reports c =
     let a = c.args in
     let r = c.reports in
-    c.no_report.ensures ∙ none_told (store a.words.now a.bytes.now) a.area.now a.e a.j
+    none_told (store a.words.now a.bytes.now) a.area.now a.e a.j
     (sym r.ensures ∙ c.if-not-reports.true)
 
 pub returns : goal.returns

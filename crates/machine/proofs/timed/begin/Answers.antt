@@ -4,7 +4,6 @@ use Rattle.node.specs.Figures.{is_last}
 use Rattle.words.proofs.Tests.{hit, skip}
 use Rattle.site.specs.declared.SiteHeader.{SiteHeader}
 use Rattle.site.specs.declared.Event.TheVariants.{End}
-use Rattle.windows.specs.Copies.{windows_in}
 use Rattle.machine.specs.Layout.{Store, store, site_in}
 use Rattle.machine.specs.timed.Timed.{in_last_round}
 use Rattle.machine.specs.timed.Stored.{given_store, begun_store}
@@ -19,7 +18,7 @@ returns-then-not-in_last_round c =
     let f : in_last_round (site_in s)
     ≡ false = sym (ap (λ (k : SiteHeader). is_last k.config k.place) c.requires) ∙ sym l.ensures
     ∙ c.if-not-in_last_round.true in
-    let e : s ≡ begun_store s a.day a.area.now (windows_in a.w.now) End = sym (skip (in_last_round (site_in s)) _ s _ f refl) in record {
+    let e : s ≡ begun_store s a.day a.area.now a.w.now End = sym (skip (in_last_round (site_in s)) _ s _ f refl) in record {
       value = sym (skip _ _ _ _ f refl);
       words_value = ap (λ (x : Store). x.words) e;
       bytes_after = ap (λ (x : Store). x.bytes) e;
@@ -38,9 +37,9 @@ returns c =
     let o = c.give.ensures in
     let f : in_last_round (site_in s) ≡ true = sym (ap (λ (k : SiteHeader). is_last k.config k.place) c.requires) ∙ sym l.ensures
     ∙ c.if-not-in_last_round.false in
-    let e : given_store (windows_in a.w.now) n.result.epoch a.area.now s
-    ≡ begun_store s a.day a.area.now (windows_in a.w.now) End =
-    ap (λ (x : Day). given_store (windows_in a.w.now) x.epoch a.area.now s) n.ensures ∙ sym (hit (in_last_round (site_in s)) _ s f)
+    let e : given_store a.w.now n.result.epoch a.area.now s
+    ≡ begun_store s a.day a.area.now a.w.now End =
+    ap (λ (x : Day). given_store a.w.now x.epoch a.area.now s) n.ensures ∙ sym (hit (in_last_round (site_in s)) _ s f)
     in record {
       value = n.ensures ∙ sym (hit _ _ _ f);
       words_value = o.words_value ∙ ap (λ (x : Store). x.words) e;

@@ -1,10 +1,13 @@
 use mathlib.Core.Path.{refl}
+use mir.Val.{bool_byte}
 use native.Mathlib.Omega.{arith}
-use Rattle.machine.proofs.Writes.{then_one}
+use Rattle.machine.proofs.Writes.{put-copy, then_one}
 use Rattle.machine.specs.Layout.{at_sent, at_phase}
 use Rattle.site.specs.Counts.{none_sent}
 use Rattle.machine.proofs.write.put_phase.Goals as goal
 
 pub returns : goal.returns
 returns c =
-    then_one c.args.bytes.now none_sent c.args.phase at_sent at_phase c.put_short.ensures refl (omega arith)
+    let l = c.args.bytes.now in
+    then_one l none_sent (bool_byte c.args.negotiates) at_sent at_phase (put-copy l none_sent at_sent 32 c.copy_from_slice.ensures.after refl)
+    refl (omega arith)

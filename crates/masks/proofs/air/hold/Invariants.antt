@@ -1,5 +1,5 @@
 use mathlib.Core.Path.{◌≡◌}
-use Prim.Native.Nat.{min, ◌≤◌, ◌-◌, ◌+◌}
+use Prim.Native.Nat.{◌≤◌, ◌+◌}
 use lib.ListN.{length}
 use Rattle.lists.proofs.Places.{Apart}
 use Rattle.masks.specs.Bytes.{masks_size, masks_in}
@@ -9,5 +9,4 @@ use Rattle.masks.proofs.air.hold.Given as goal
 
 abbrev pub invariant-loop-k : goal.invariant-loop-k
 invariant-loop-k l =
-    (l.k ≤ l.top) × (l.top ≡ min (length l.owners) 80) × (l.at + masks_size ≤ length l.out) × Bytes l.out × Apart l.initial.out l.out l.at masks_size
-    × (masks_in l.out l.at ≡ masks_to l.owners l.k)
+    (l.at + masks_size ≤ length l.out) × Bytes l.out × Apart l.initial.out l.out l.at masks_size × (masks_in l.out l.at ≡ masks_to l.fn.owners l.k)

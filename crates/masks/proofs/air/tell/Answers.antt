@@ -1,4 +1,4 @@
-use mathlib.Core.Bool.{Bool, true, false, ◌&&◌, and-false}
+use mathlib.Core.Bool.{Bool, ◌&&◌, and-false}
 use mathlib.Core.List.{List}
 use mathlib.Core.Path.{◌≡◌, refl, sym, ap, ◌∙◌}
 use Prim.Native.Nat.{ℕ, ◌≤◌, ◌<◌, ◌-◌, ◌+◌}
@@ -42,7 +42,7 @@ returns-then-out-to c =
 pub tell_rows-requires : goal.tell_rows-requires
 tell_rows-requires c =
     let a = c.args in
-    let n = c.nodes_to.ensures in
+    let n = c.min.ensures in
     let d : length (drop a.to a.out.now) ≡ length a.out.now - a.to = length-drop a.to a.out.now in (
       leb-true _ _ (sym c.has_room.ensures
           ∙ c.if-not-has_room.false),
@@ -56,7 +56,7 @@ returns c =
     let l = a.out.now in
     let m = masks_in a.s.now a.at in
     let h : a.to + 80 ≤ length l = omega arith in
-    let e = c.tell_rows.ensures ∙ ap (owners_to m) c.nodes_to.ensures
+    let e = c.tell_rows.ensures ∙ ap (owners_to m) c.min.ensures
     ∙ told-min m a.n in
     let k : length (owners_to m a.n) ≡ a.to + 80 - a.to = length-told m a.n ∙ omega arith in
     let r = sym c.has_room.ensures

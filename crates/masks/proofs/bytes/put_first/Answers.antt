@@ -1,50 +1,32 @@
+use Rattle.std.proofs.Common.{◌<◌, refl, sym, ap, ◌∙◌, arith}
+use lib.ListN.{length-take}
+use lib.Seq.{get_or-take}
 use Rattle.lists.proofs.Chain.{written_none}
 use Rattle.masks.specs.Bytes.{bytes64, rows}
 use Rattle.masks.proofs.Moves.{words-turn, words_long, words-end}
-use mathlib.Core.Path.{refl, sym}
-use Prim.Native.Nat.{◌-◌}
-use native.Mathlib.Omega.{arith}
 use Rattle.masks.proofs.bytes.put_first.Goals as goal
 
 pub loop-i-init : goal.loop-i-init
 unfolding rows
-loop-i-init c = (omega arith, sym (written_none c.zeros.new.s c.args.at))
-
-pub offset_bounds-low-i : goal.offset_bounds-low-i
-offset_bounds-low-i c = omega arith
-
-pub bounds-low-i : goal.bounds-low-i
-bounds-low-i c = omega arith
-
-pub overflow_mul-i : goal.overflow_mul-i
-overflow_mul-i c = omega arith
-
-pub overflow_add-at : goal.overflow_add-at
-overflow_add-at c = omega arith
-
-pub overflow_step-i : goal.overflow_step-i
-overflow_step-i c = omega arith
-
-pub loop-i-smaller : goal.loop-i-smaller
-loop-i-smaller c = omega arith
+loop-i-init c = sym (written_none c.zeros.new.s c.args.at)
 
 pub loop-i-preserved : goal.loop-i-preserved
 loop-i-preserved c =
-    let z = c.zeros in (
-      omega arith,
-      words-turn bytes64 8 (λ x. refl) c.args.low.now c.args.out.now c.args.at c.requires.1 z.ensures c.loop-i.i
-          (omega (arith, c.requires)) c.loop-i.invariant.1 c.long_bytes-b.ensures
-          c.put_bytes.ensures,
-    )
+    let i = c.loop-i.i in
+    let n = c.args.n in
+    let w = c.args.low.now in
+    let k : i < n = omega (arith, length-take n w, c.loop-i-test.true) in
+    words-turn bytes64 8 (λ x. refl) w c.args.out.now c.args.at c.requires.1 c.zeros.ensures i (omega (arith, c.requires, k))
+    c.loop-i.invariant (c.long_bytes-b.ensures ∙ ap bytes64 (get_or-take n w i 0 k)) c.put_bytes.ensures
 
 pub shape_of-out : goal.shape_of-out
 shape_of-out c =
     let z = c.zeros in
     words_long bytes64 8 (λ x. refl) c.args.low.now c.args.out.now c.args.at c.requires.1 z.ensures c.loop-i.i
-    (omega (arith, c.requires)) c.loop-i.invariant.1
+    (omega (arith, c.requires)) c.loop-i.invariant
 
 pub returns : goal.returns
 returns c =
     let z = c.zeros in
     words-end bytes64 8 (λ x. refl) c.args.low.now c.args.out.now c.args.at c.requires.1 z.ensures c.loop-i.i
-    c.args.n (omega arith) c.requires.0 refl c.loop-i.invariant.1
+    c.args.n (omega arith) c.requires.0 refl c.loop-i.invariant

@@ -1,9 +1,7 @@
-use lib.ListN.{get_or}
+use Rattle.std.proofs.Common.{◌≡◌, get_or}
 use Rattle.lists.specs.Bytes.{written}
 use Rattle.masks.specs.Bytes.{bytes16, rows}
-use mathlib.Core.Path.{◌≡◌}
-use Prim.Native.Nat.{◌≤◌, ◌-◌}
 use Rattle.masks.proofs.bytes.put_second.Given as goal
 
 abbrev pub invariant-loop-i : goal.invariant-loop-i
-invariant-loop-i l = (l.i ≤ l.n) × (l.out ≡ written l.initial.out l.at (rows l.i (λ j. bytes16 (get_or l.high j 0))))
+invariant-loop-i l = l.out ≡ written l.initial.out l.at (rows l.i (λ j. bytes16 (get_or l.fn.high j 0)))

@@ -30,14 +30,14 @@ room : (c : Else-not-has_room) → c.args.at + masks_size ≤ length
 room c = leb-true _ _ (sym c.has_room.ensures ∙ c.if-not-has_room.false)
 
 pub put_first-requires : goal.put_first-requires
-put_first-requires c = (omega (arith, c.nodes_to-top.ensures), omega (arith, room c.before.before))
+put_first-requires c = (omega (arith, c.min-top.ensures), omega (arith, room c.before.before))
 
 pub overflow_add-at : goal.overflow_add-at
 overflow_add-at c = omega (arith, room c.before.before.before.before.before.before)
 
 pub put_second-requires : goal.put_second-requires
 put_second-requires c = (
-  omega (arith, c.nodes_to-top.ensures),
+  omega (arith, c.min-top.ensures),
   omega (arith, room c.before.before.before.before.before.before),
 )
 
@@ -47,7 +47,7 @@ overflow_add-at-2 c = omega (arith, room c.before.before.before.before.before.be
 pub returns : goal.returns
 returns c =
     let n = c.args.n in
-    let t = c.nodes_to-top in
+    let t = c.min-top in
     let cut : (l : List ℕ) → first_words t.result l ≡ first_words n l = λ l. ap (λ (x : ℕ). first_words x l) t.ensures ∙ first-min n l in
     let m : Masks = from_words (first_words n c.args.low.now) (first_words n c.args.high.now) c.args.counts in
     masks-put m c.args.out.now c.args.at (room c.before.before.before.before.before.before.before.before.before.before.before.before.before.before.before) (sym (entries c.args.counts (count_of m) (long-counts c.before.before.before.before.before.before.before.before.before.before.before.before.before.before.before.before.before.before) (λ i k. refl)))

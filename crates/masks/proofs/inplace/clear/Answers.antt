@@ -6,7 +6,7 @@ use Rattle.lists.specs.Bytes.{written}
 use Rattle.masks.specs.Bytes.{masks_size}
 use Rattle.masks.proofs.Moves.{zeros-twice}
 use mathlib.Core.Path.{refl, sym, ap, ◌∙◌}
-use Prim.Native.Nat.{ℕ, ◌-◌, ◌+◌}
+use Prim.Native.Nat.{ℕ, ◌+◌}
 use native.Mathlib.Omega.{arith}
 use Rattle.masks.proofs.inplace.clear.Goals as goal
 

@@ -9,7 +9,7 @@ use Rattle.masks.specs.Bytes.{masks_size, rows, has_room, can_copy}
 use Rattle.masks.proofs.Rows.{length_part, rows_more}
 use Rattle.masks.proofs.Moves.{part_at, long-part, part-kept, parts_are, overlaps, apart, can-copy, no_room}
 use mathlib.Core.Path.{◌≡◌, refl, sym, ap, ◌∙◌}
-use Prim.Native.Nat.{ℕ, ◌≤◌, ◌<◌, ◌-◌, ◌+◌, ◌*◌}
+use Prim.Native.Nat.{ℕ, ◌≤◌, ◌<◌, ◌+◌, ◌*◌}
 use native.Mathlib.Omega.{arith}
 use Rattle.masks.proofs.inplace.copy.Goals as goal
 

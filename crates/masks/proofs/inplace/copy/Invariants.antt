@@ -3,7 +3,7 @@ use Rattle.lists.specs.Bytes.{written}
 use Rattle.masks.specs.Bytes.{masks_size, rows}
 use Rattle.masks.proofs.Moves.{part_at}
 use mathlib.Core.Path.{◌≡◌}
-use Prim.Native.Nat.{◌≤◌, ◌-◌, ◌+◌}
+use Prim.Native.Nat.{◌≤◌, ◌+◌}
 use Rattle.masks.proofs.inplace.copy.Given as goal
 
 abbrev pub invariant-loop-i : goal.invariant-loop-i

@@ -8,7 +8,6 @@ use Rattle.masks.proofs.Parts.{Bytes}
 use Rattle.masks.proofs.Rows.{sized}
 use Rattle.masks.proofs.Fits.{first-fit, blank-fits}
 use mathlib.Core.Path.{sym, ap, ◌∙◌}
-use Prim.Native.Nat.{◌-◌}
 use native.Mathlib.Omega.{arith}
 use Rattle.masks.proofs.inplace.fit.Goals as goal
 
@@ -33,7 +32,7 @@ pub rows_fit-requires : goal.rows_fit-requires
 rows_fit-requires c = (
   leb-true _ _ (sym c.has_room.ensures ∙ c.if-not-has_room.false),
   omega
-      (arith, c.nodes_to-top.ensures),
+      (arith, c.min-top.ensures),
 )
 
 pub returns-then-not-rows_fit : goal.returns-then-not-rows_fit
@@ -47,14 +46,14 @@ returns-then-not-rows_fit c =
     let y : Bytes s = λ i g. omega (arith, c.type_inv.s i) in
     let z = sized s y a.at (leb-true _ _ h) in
     let r = sym c.rows_fit.ensures ∙ c.if-not-rows_fit.true in
-    sym (both h (sym (first-fit m z a.k a.n c.nodes_to-top.result c.nodes_to-top.ensures)
-    ∙ ap (λ (t : Bool). t && rest_blank m c.nodes_to-top.result) r))
+    sym (both h (sym (first-fit m z a.k a.n c.min-top.result c.min-top.ensures)
+    ∙ ap (λ (t : Bool). t && rest_blank m c.min-top.result) r))
 
 pub rest_blank-requires : goal.rest_blank-requires
 rest_blank-requires c = (
   leb-true _ _ (sym c.has_room.ensures
       ∙ c.if-not-has_room.false),
-  omega (arith, c.nodes_to-top.ensures),
+  omega (arith, c.min-top.ensures),
 )
 
 pub returns : goal.returns
@@ -69,5 +68,5 @@ returns c =
     (arith, c.type_inv.s i) in
     let z = sized s y a.at (leb-true _ _ h) in
     let r = sym c.rows_fit.ensures ∙ c.if-not-rows_fit.false in
-    sym (both h (sym (first-fit m z a.k a.n c.nodes_to-top.result
-    c.nodes_to-top.ensures) ∙ both r (sym c.rest_blank.ensures)))
+    sym (both h (sym (first-fit m z a.k a.n c.min-top.result
+    c.min-top.ensures) ∙ both r (sym c.rest_blank.ensures)))

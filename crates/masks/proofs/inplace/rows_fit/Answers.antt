@@ -1,7 +1,6 @@
 use Rattle.words.proofs.Tests.{both}
 use Rattle.masks.proofs.Fits.{rows-wrong}
 use mathlib.Core.Path.{ap₂}
-use mathlib.Core.Bool.{true}
 use Rattle.lists.specs.All.{all_below}
 use Rattle.lists.proofs.Laws.{all_none}
 use Rattle.masks.specs.Slots.{well_formed_at}
@@ -10,7 +9,7 @@ use Rattle.masks.specs.Inner.{taken, ends_by}
 use Rattle.masks.proofs.Taken.{taken_none, taken-turn, tidy-turn}
 use Rattle.masks.proofs.Rows.{low_read, high_read, count-read}
 use mathlib.Core.Path.{◌≡◌, sym, ap, ◌∙◌}
-use Prim.Native.Nat.{ℕ, ◌<◌, ◌-◌}
+use Prim.Native.Nat.{ℕ, ◌<◌}
 use native.Mathlib.Omega.{arith}
 use Rattle.masks.proofs.inplace.rows_fit.Goals as goal
 
@@ -49,7 +48,7 @@ returns-then-not-apart-counted c =
     let k : l.i < 32 = omega (arith, c.requires.1) in
     let x = c.long_word-a.ensures ∙ low_read s c.args.from l.i k in
     let y = c.short_word-b.ensures ∙ high_read s c.args.from l.i k in
-    let h = c.wide-held.ensures ∙ count-read s c.args.from l.i k in
+    let h = c.from-held.ensures ∙ count-read s c.args.from l.i k in
     let t = tidy-turn m l.i _ _ _ _ _ _ _ l.invariant.1 l.invariant.2 x y h c.ones-n.ensures l.invariant.3 in
     sym (rows-wrong m l.i c.args.top _ (omega arith) (sym t ∙ c.if-not-apart-counted.true))
 
@@ -67,7 +66,7 @@ loop-i-preserved c =
     let k : l.i < 32 = omega (arith, c.requires.1) in
     let x = c.long_word-a.ensures ∙ low_read s c.args.from l.i k in
     let y = c.short_word-b.ensures ∙ high_read s c.args.from l.i k in
-    let h = c.wide-held.ensures ∙ count-read s c.args.from l.i k in
+    let h = c.from-held.ensures ∙ count-read s c.args.from l.i k in
     let t = tidy-turn m l.i _ _ _ _ _ _ _ l.invariant.1 l.invariant.2 x y h c.ones-n.ensures l.invariant.3 in
     (omega arith, taken-turn _ _ _ _ l.invariant.1 x, taken-turn _ _ _ _ l.invariant.2 y, sym (c.if-not-apart-counted.false) ∙ t)
 

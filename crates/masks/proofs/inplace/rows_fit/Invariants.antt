@@ -4,7 +4,7 @@ use Rattle.masks.specs.Slots.{well_formed_at}
 use Rattle.masks.specs.Bytes.{masks_in}
 use Rattle.masks.specs.Inner.{taken}
 use mathlib.Core.Path.{◌≡◌}
-use Prim.Native.Nat.{◌≤◌, ◌-◌}
+use Prim.Native.Nat.{◌≤◌}
 use Rattle.masks.proofs.inplace.rows_fit.Given as goal
 
 abbrev pub invariant-loop-i : goal.invariant-loop-i

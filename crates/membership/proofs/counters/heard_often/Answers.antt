@@ -1,5 +1,5 @@
 use mathlib.Core.Path.{refl, sym, ap, ◌∙◌}
-use Prim.Native.Nat.{◌^◌, ℕ, ◌-◌}
+use Prim.Native.Nat.{◌^◌, ℕ}
 use native.Mathlib.Omega.{arith}
 use lib.Bits
 use borrow.Author.Tests.{lt-ltb}
@@ -13,30 +13,18 @@ use Rattle.membership.proofs.counters.heard_often.Goals.{then-is_often, else-is_
 
 pub loop-i-init : goal.loop-i-init
 unfolding word_of
-loop-i-init c = (omega arith, refl)
-
-pub overflow_cast-i : goal.overflow_cast-i
-overflow_cast-i c = omega arith
-
-pub overflow_step-i : goal.overflow_step-i
-overflow_step-i c = omega arith
-
-pub loop-i-smaller : goal.loop-i-smaller
-loop-i-smaller c = omega arith
+loop-i-init c = refl
 
 pub loop-i-preserved : goal.loop-i-preserved
 loop-i-preserved c =
     let i = c.loop-i.i in
-    let e = c.loop-i.invariant.1 in
-    let o = sym c.is_often.ensures in (
-      omega arith,
-      elim c.if-is_often.branch [
-        | then-is_often w ↦ w.w-is ∙ w.with-w.ensures ∙ hit _ _ _ (lt-ltb i 32 (omega arith)) ∙ ap (λ (x : ℕ). Bits.bit_or x (2 ^ i)) e
-            ∙ word_more i _ (o ∙ w.if-is_often.true)
-        | else-is_often w ↦ w.w-is ∙ e ∙ word_same i _ (o ∙ w.if-is_often.false)
-      ],
-    )
+    let e = c.loop-i.invariant in
+    let o = sym c.is_often.ensures in
+    elim c.if-is_often.branch [
+      | then-is_often w ↦ w.w-is ∙ w.with-w.ensures ∙ hit _ _ _ (lt-ltb i 32 (omega arith)) ∙ ap (λ (x : ℕ). Bits.bit_or x (2 ^ i)) e
+          ∙ word_more i _ (o ∙ w.if-is_often.true)
+      | else-is_often w ↦ w.w-is ∙ e ∙ word_same i _ (o ∙ w.if-is_often.false)
+    ]
 
 pub returns : goal.returns
-returns c = c.loop-i.invariant.1 ∙ ap (λ (k : ℕ). word_of k
-    (λ j. leb c.args.heard (get_or c.args.counters j 0))) (omega arith)
+returns c = c.loop-i.invariant ∙ ap (λ (k : ℕ). word_of k (λ j. leb c.args.heard (get_or c.args.counters j 0))) (omega arith)

@@ -8,6 +8,6 @@ pub returns-then-j-gt0 : goal.returns-then-j-gt0
 unfolding with_self
 returns-then-j-gt0 c = c.with.ensures ∙ sym (hit _ _ _ (lt-ltb _ _ c.if-j-gt0.true))
 
-pub returns : goal.returns
+pub returns-else-j-gt0 : goal.returns-else-j-gt0
 unfolding with_self
-returns c = sym (skip _ _ _ _ (le-ltb _ _ c.if-j-gt0.false) refl)
+returns-else-j-gt0 c = sym (skip _ _ _ _ (le-ltb _ _ c.if-j-gt0.false) refl)

@@ -1,27 +1,14 @@
-use Prim.Native.Nat.{◌-◌}
 use native.Mathlib.Omega.{arith}
 use Rattle.lists.proofs.Laws.{all_none, all_more, all_end}
 use Rattle.membership.specs.requests.Requests.{agree}
 use Rattle.membership.proofs.requests.agree.Goals as goal
 
 pub loop-i-init : goal.loop-i-init
-loop-i-init c = (omega arith, all_none _)
-
-pub bounds-a-i : goal.bounds-a-i
-bounds-a-i c = omega arith
-
-pub bounds-b-i : goal.bounds-b-i
-bounds-b-i c = omega arith
-
-pub overflow_step-i : goal.overflow_step-i
-overflow_step-i c = omega arith
-
-pub loop-i-smaller : goal.loop-i-smaller
-loop-i-smaller c = omega arith
+loop-i-init c = all_none _
 
 pub loop-i-preserved : goal.loop-i-preserved
-loop-i-preserved c = (omega arith, all_more _ _ _ _ c.loop-i.invariant.1 c.agree_at-one.ensures)
+loop-i-preserved c = all_more _ _ _ _ c.loop-i.invariant c.agree_at-ok.ensures
 
 pub returns : goal.returns
 unfolding agree
-returns c = all_end _ _ _ _ c.loop-i.invariant.1 (omega arith)
+returns c = all_end _ _ _ _ c.loop-i.invariant (omega arith)

@@ -1,40 +1,39 @@
+use mathlib.Core.Bool.{Bool, true, false, ◌&&◌, and-false}
 use mathlib.Core.Path.{◌≡◌, refl, sym, ap, ◌∙◌}
 use Prim.Native.Nat.{ℕ, ◌-◌}
 use native.Mathlib.Omega.{arith}
+use borrow.Author.Tests.{eq-eqb, ne_eqb}
+use lib.Dec.{eqb}
+use lib.ListN.{get_or}
 use Rattle.words.proofs.Tests.{both}
-use Rattle.membership.specs.requests.Requests.{lacks, first_with, lowest_missing}
+use Rattle.words.specs.Bits.{has_bit}
+use Rattle.membership.specs.requests.Requests.{none, lacks, first_with, lowest_missing}
 use Rattle.membership.proofs.requests.Laws.{first-here, first-behind, first-none}
 use Rattle.membership.proofs.requests.lowest_missing.Goals as goal
+use Rattle.membership.proofs.requests.lowest_missing.Goals.{else-contains-via-then-contains+else-x, else-contains-via-else-contains}
 
 pub loop-i-init : goal.loop-i-init
 unfolding lowest_missing
-loop-i-init c = (omega arith, refl)
+loop-i-init c = refl
 
-pub overflow_cast-i : goal.overflow_cast-i
-overflow_cast-i c = omega arith
-
-pub overflow_add-result : goal.overflow_add-result
-overflow_add-result c = omega arith
-
-pub overflow_cast-result : goal.overflow_cast-result
-overflow_cast-result c = omega arith
-
-pub returns-then-flag-l : goal.returns-then-flag-l
-returns-then-flag-l c =
-    sym (c.loop-i.invariant.1 ∙ first-here _ 32 _ (omega arith) (both (sym c.contains-flag.ensures) refl ∙ c.if-flag-l.true))
-
-pub overflow_step-i : goal.overflow_step-i
-overflow_step-i c = omega arith
-
-pub loop-i-smaller : goal.loop-i-smaller
-loop-i-smaller c = omega arith
+pub returns-then-x : goal.returns-then-x
+returns-then-x c =
+    let e : lacks c.args.w c.args.l c.loop-i.i ≡ true =
+    both {b = true} {d = true} (sym c.contains.ensures ∙ c.if-contains.true) (eq-eqb _ _ c.if-x.true) in
+    sym (c.loop-i.invariant ∙ first-here _ 32 _ (omega arith) e)
 
 pub loop-i-preserved : goal.loop-i-preserved
 loop-i-preserved c =
-    (omega arith, c.loop-i.invariant.1 ∙ first-behind _ 32 _ (omega arith) (both (sym c.contains-flag.ensures) refl ∙ c.if-flag-l.false))
+    let i = c.loop-i.i in
+    let e : lacks c.args.w c.args.l i ≡ false = elim c.else-contains.branch [
+      | else-contains-via-then-contains+else-x w ↦
+          ap (λ (t : Bool). has_bit c.args.w i && t) (ne_eqb (get_or c.args.l i 0) none w.if-x.false) ∙ and-false (has_bit c.args.w i)
+      | else-contains-via-else-contains w ↦
+          ap (λ (t : Bool). t && eqb (get_or c.args.l i 0) none) (sym c.contains.ensures ∙ w.if-contains.false)
+    ] in
+    c.loop-i.invariant ∙ first-behind _ 32 _ (omega arith) e
 
 pub returns : goal.returns
 returns c =
     let z : 32 - c.loop-i.i ≡ 0 = omega arith in
-    sym (c.loop-i.invariant.1 ∙ ap (λ (k : ℕ). first_with k c.loop-i.i
-    (lacks c.args.w c.args.l)) z ∙ first-none _ _)
+    sym (c.loop-i.invariant ∙ ap (λ (k : ℕ). first_with k c.loop-i.i (lacks c.args.w c.args.l)) z ∙ first-none _ _)

@@ -1,12 +1,9 @@
-use mathlib.Core.Bool.{◌&&◌, true}
-use mathlib.Core.Path.{◌≡◌}
-use Prim.Native.Nat.{◌≤◌}
-use lib.ListN.{get_or}
+use Rattle.std.proofs.Common.{◌≡◌, get_or}
+use mathlib.Core.Bool.{true, ◌&&◌}
 use Rattle.lists.specs.All.{all_below}
 use Rattle.words.specs.Bits.{is_inside}
 use Rattle.membership.specs.requests.Requests.{requesters, request_within}
 use Rattle.membership.proofs.requests.requests_within.Given as goal
 
-abbrev pub invariant-loop-i : goal.invariant-loop-i
-invariant-loop-i l = (l.i ≤ 32)
-    × (l.ok ≡ (is_inside (requesters l.l) l.flags && all_below l.i (λ j. request_within (get_or l.l j 0) true)))
+abbrev pub invariant-loop-x : goal.invariant-loop-x
+invariant-loop-x l = l.ok ≡ (is_inside (requesters l.fn.l) l.flags && all_below l.x-index (λ j. request_within (get_or l.fn.l j 0) true))

@@ -8,11 +8,11 @@ use Rattle.node.specs.Figures.{is_last}
 use lib.ListN.{replicate}
 use mathlib.Core.Bool.{Bool, not, cond, ◌&&◌}
 use mathlib.Core.Path.{ap, ap₂, ◌∙◌}
-use Prim.Native.Nat.{◌-◌, ◌+◌}
+use Prim.Native.Nat.{◌+◌}
 use Rattle.node.proofs.Core.round_ended.Goals as goal
 
-pub place_after-place-requires : goal.place_after-place-requires
-place_after-place-requires c = c.is_last-last.ensures
+pub place_after-requires : goal.place_after-requires
+place_after-requires c = c.is_last-last.ensures
 
 pub returns : goal.returns
 unfolding core_round_ended
@@ -25,12 +25,12 @@ returns c =
     let version = c.left-version.ensures
     ∙ ap (λ (t : Bool). cond t 0 n.version) expired in
     let request = c.request_at-request.ensures ∙ ap (core_request n) version in
-    let round = c.opening-round.ensures
+    let round = c.opening.ensures
     ∙ (λ i. opened n.setup.node (version i) (flags i) (request i)) in
-    let counters = c.kept-counters.ensures ∙ ap (λ (t : Bool). cond t (replicate 32 0) n.counters) last in
-    let interactions = c.left-interactions.ensures ∙ ap (λ (t : Bool). cond t 0 n.interactions) last in
-    let place = c.place_after-place.ensures ∙ ap (λ (t : Bool). cond t 0 (n.place + 1)) last in
-    let change = c.end_move-change.ensures ∙ ap₂ end_move_by last expired
+    let counters = c.kept.ensures ∙ ap (λ (t : Bool). cond t (replicate 32 0) n.counters) last in
+    let interactions = c.left.ensures ∙ ap (λ (t : Bool). cond t 0 n.interactions) last in
+    let place = c.place_after.ensures ∙ ap (λ (t : Bool). cond t 0 (n.place + 1)) last in
+    let change = c.end_move.ensures ∙ ap₂ end_move_by last expired
     ∙ turn-move (is_last n.setup.config n.place) (expires (bare n)) in
     let core = (λ i. record {
       setup = n.setup;

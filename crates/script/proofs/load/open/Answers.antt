@@ -1,42 +1,48 @@
-use Rattle.node.specs.declared.Answer.TheVariants.{BadNames}
-use Rattle.script.specs.load.Opening.{Reading, settings_names, settings_line, opening, config_of, config_read, refused_at}
-use Rattle.script.specs.load.Inner.{from_settings, Reads}
-use Rattle.script.proofs.load.Laws.{names-wrong, names-right, reads-refused, reads_same, reads-config, then-refused, then-got}
-use Rattle.text.specs.Read.{split}
-use mathlib.Core.List.{List}
-use mathlib.Core.Path.{refl, ap, ◌∙◌}
-use Prim.Native.Nat.{ℕ}
-use Rattle.node.specs.declared.Config.{Config}
+use Rattle.std.proofs.Common.{rules}
+use Rattle.std.specs.Prelude.{Err}
+use mathlib.Core.Path.{◌≡◌, ◌∙◌}
+use native.Mathlib.Omega.{arith}
+use Rattle.script.proofs.load.Laws.{limits, told_on, refused-names, refused-settings, refused-table, refused-rows, refused-events, opens}
 use Rattle.script.proofs.load.open.Goals as goal
 
--- the lines behind the settings' names
-abbrev behind : Unit {0} → List (List ℕ) → Reading Config
-behind u a = settings_line 2 a
+-- Line by line: the refusal that is passed on is that of the opening.
+pub returns-in_err-a : goal.returns-in_err-a
+returns-in_err-a c =
+    let p : c.from_residual.result ≡ Err c.in_err-a.field-0.0 = search rules in
+    let t = told_on p (refused-names _ (record { is = c.in_err-a.ensures.is; config = c.in_err-a.ensures.config ∙ c.none.ensures })) in
+    record { value = t.value; lines = t.lines; within = t.within }
 
--- By the answer to the names line: a refusal of line 1 without figures, or what `from_settings` answers behind it.
-pub returns-in-Wrong : goal.returns-in-Wrong
-unfolding opening config_read
-returns-in-Wrong c =
-    let s = c.args.script.now in
-    let e = names-wrong _ settings_names tt _ _ c.names_line-n.ensures.result_value c.in-Wrong.is in
-    let q : Reads s (config_read (split 10 s)) c.refuse.result (opening (split 10 s)) = reads-config
-    (ap config_of (then-refused behind _ _ e))
-    (reads-refused _ BadNames refl (then-refused (λ (u : Unit {0}) d. from_settings d) _ _ e)
-    (c.refuse.ensures ∙ ap (refused_at 1 BadNames) c.none.ensures)) in record {
-      value = q.is;
-      lines = q.lines;
-      within = q.within;
-    }
+pub returns-in_err-config : goal.returns-in_err-config
+returns-in_err-config c =
+    let p : c.from_residual-in_err-config.result ≡ Err c.in_err-config.field-0.0 = search rules in
+    let t = told_on p (refused-settings _ c.in_ok-a.ensures c.in_err-config.ensures.line) in
+    record { value = t.value; lines = t.lines; within = t.within }
 
-pub returns-in-At : goal.returns-in-At
-unfolding opening config_read
-returns-in-At c =
-    let s = c.args.script.now in
-    let e = names-right _ settings_names tt _ _ c.names_line-n.ensures.result_value _ c.in-At.is in
-    let q : Reads s (config_read (split 10 s)) c.from_settings.result (opening (split 10 s)) = reads-config
-    (ap config_of (then-got behind _ _ e))
-    (reads_same (then-got (λ (u : Unit {0}) d. from_settings d) _ _ e) c.from_settings.ensures) in record {
-      value = q.is;
-      lines = q.lines;
-      within = q.within;
-    }
+pub returns-in_err-c : goal.returns-in_err-c
+returns-in_err-c c =
+    let p : c.from_residual-in_err-c.result ≡ Err c.in_err-c.field-0.0 = search rules in
+    let t = told_on p (refused-table _ c.in_ok-a.ensures c.in_ok-config.ensures.line c.in_err-c.ensures) in
+    record { value = t.value; lines = t.lines; within = t.within }
+
+pub rows-requires : goal.rows-requires
+rows-requires c = ((limits _ c.in_ok-config.ensures.good).nodes, c.in_ok-c.ensures.within)
+
+pub returns-in_err-table : goal.returns-in_err-table
+returns-in_err-table c =
+    let p : c.from_residual-in_err-table.result ≡ Err c.in_err-table.field-0.0 = search rules in
+    let t = told_on p (refused-rows _ c.in_ok-a.ensures c.in_ok-config.ensures.line c.in_ok-c.ensures c.in_err-table.ensures) in
+    record { value = t.value; lines = t.lines; within = t.within }
+
+pub overflow_add-config : goal.overflow_add-config
+overflow_add-config c = omega (arith, (limits _ c.in_ok-config.ensures.good).nodes)
+
+pub returns-in_err-at : goal.returns-in_err-at
+returns-in_err-at c =
+    let p : c.from_residual-in_err-at.result ≡ Err c.in_err-at.field-0.0 = search rules in
+    let t = told_on p (refused-events _ c.in_ok-a.ensures c.in_ok-config.ensures.line c.in_ok-c.ensures c.in_ok-table.ensures c.in_err-at.ensures) in
+    record { value = t.value; lines = t.lines; within = t.within }
+
+pub returns : goal.returns
+returns c =
+    let t = opens _ c.in_ok-a.ensures c.in_ok-config.ensures.line c.in_ok-c.ensures c.in_ok-table.ensures c.in_ok-at.ensures in
+    record { value = t.value; lines = t.lines; within = t.within }

@@ -1,7 +1,7 @@
 -- The packets of all nodes, counted one node a turn: what is counted and the total of what is left make the total.
 use mathlib.Core.Path.{◌≡◌, refl, sym, ap, ◌∙◌}
 use mathlib.Core.List.{List, [], ◌∷◌}
-use Prim.Native.Nat.{ℕ, zero, suc, ◌≤◌, ◌<◌, ◌-◌, ◌+◌}
+use Prim.Native.Nat.{ℕ, zero, suc, ◌≤◌, ◌<◌, ◌+◌}
 use native.Mathlib.Omega.{arith}
 use native.Mathlib.Numerals.{add-one}
 use native.Mathlib.Nat.{le_of_suc-le-suc, not-suc-le-zero}
@@ -11,7 +11,6 @@ use mir.Syntax.{w8}
 use lib.ListN.{length, get_or, drop}
 use Rattle.allotment.specs.Allotment.{total}
 use Rattle.site.proofs.SiteHeader.packets.Goals as goal
-use Rattle.site.proofs.SiteHeader.packets.Goals.{In-loop-i}
 
 -- what is counted and what is left make the total
 total_left : (l : List ℕ) (i : ℕ) → i < length l → total (drop i l) ≡ get_or l i 0 + total (drop (suc i) l)
@@ -27,35 +26,26 @@ none_left [] (suc i) h = refl
 none_left (x ∷ l) zero h = absurd (not-suc-le-zero h)
 none_left (x ∷ l) (suc i) h = none_left l i (le_of_suc-le-suc h)
 
-pub loop-i-init : goal.loop-i-init
-loop-i-init c = (omega arith, search rules, omega arith, omega arith)
-
-pub bounds-sent-i : goal.bounds-sent-i
-bounds-sent-i c = omega arith
-
--- a count is a byte
-byte : (c : In-loop-i) → get_or c.args.self.sent c.loop-i.i 0 < 256
-byte c = let f : Fits w8 (get_or c.args.self.sent c.loop-i.i 0) = search rules in f.fits
+pub loop-x-init : goal.loop-x-init
+loop-x-init c = (search rules, omega arith, omega arith)
 
 pub overflow_add-n : goal.overflow_add-n
-overflow_add-n c = omega (arith, byte c)
+overflow_add-n c =
+    let l = c.loop-x in
+    let byte : Fits w8 (get_or c.args.self.sent l.x-index 0) = search rules in
+    omega (arith, byte.fits, c.from-n.ensures, l.invariant.1, c.loop-x-test.true)
 
-pub overflow_step-i : goal.overflow_step-i
-overflow_step-i c = omega arith
-
-pub loop-i-smaller : goal.loop-i-smaller
-loop-i-smaller c = omega arith
-
-pub loop-i-preserved : goal.loop-i-preserved
-loop-i-preserved c =
-    let l = c.loop-i in
+pub loop-x-preserved : goal.loop-x-preserved
+loop-x-preserved c =
+    let l = c.loop-x in
     let s = c.args.self.sent in
-    let h : l.i < length s = omega (arith, l.invariant.1) in
-    let e : total (drop l.i s) ≡ get_or s l.i 0 + total (drop (l.i + 1) s) = total_left s l.i h
-    ∙ ap (λ (k : ℕ). get_or s l.i 0 + total (drop k s)) (sym (add-one l.i)) in
-    (omega arith, l.invariant.1, omega (arith, byte c), omega (arith, e, l.invariant.3))
+    let h : l.x-index < length s = omega (arith, l.invariant.0, c.loop-x-test.true) in
+    let byte : Fits w8 (get_or s l.x-index 0) = search rules in
+    let e : total (drop l.x-index s) ≡ get_or s l.x-index 0 + total (drop (l.x-index + 1) s) = total_left s l.x-index h
+    ∙ ap (λ (k : ℕ). get_or s l.x-index 0 + total (drop k s)) (sym (add-one l.x-index)) in
+    (l.invariant.0, omega (arith, byte.fits, l.invariant.1, c.from-n.ensures), omega (arith, e, l.invariant.2, c.from-n.ensures))
 
 pub returns : goal.returns
 returns c =
-    let l = c.loop-i in
-    omega (arith, none_left c.args.self.sent l.i (omega (arith, l.invariant.1)), l.invariant.3)
+    let l = c.loop-x in
+    omega (arith, none_left c.args.self.sent l.x-index (omega (arith, l.invariant.0)), l.invariant.2)

@@ -1,16 +1,14 @@
 -- The machine loads the part of the site; where it is done, the number's places are freed and its slot is taken.
 use mathlib.Core.Path.{◌≡◌, refl, sym, ap, ◌∙◌}
 use native.Mathlib.Omega.{arith}
-use mathlib.Core.Bool.{true, false}
 use lib.ListN.{length}
 use lib.Seq.{length-take-le}
 use Rattle.words.proofs.Tests.{hit, skip}
-use Rattle.node.specs.Answers.{is_done, number}
+use Rattle.machine.proofs.Refused.{handed, answered-ok, answered-err}
+use Rattle.node.specs.Answers.{is_done}
 use Rattle.node.proofs.Answers.{done-is}
 use Rattle.machine.specs.Layout.{Store, store, words_size, bytes_size, site_in}
-use Rattle.windows.specs.Copies.{windows_in}
-use Rattle.machine.specs.timed.Stored.{stored_load_answer, timed_loaded_store, timed_loaded_site}
-use Rattle.machine.specs.declared.DayAnswer.{DayAnswer}
+use Rattle.machine.specs.timed.Stored.{stored_load_answer, stored_load, timed_loaded_store, timed_loaded_site}
 use Rattle.group.specs.Places.{top_places, freed}
 use Rattle.group.proofs.Places.{length-freed}
 use Rattle.sites.specs.many.Memory.{memory, store_at, places_in}
@@ -19,17 +17,17 @@ use Rattle.sites.proofs.many.Lists.{front_length}
 use Rattle.sites.proofs.many.Memories.{cut-store, cut-words, cut-bytes, words_back, bytes_back, table-back}
 use Rattle.sites.proofs.calls.load_at.Goals as goal
 
-pub returns-then-not-is_done : goal.returns-then-not-is_done
+pub returns-in_err-day : goal.returns-in_err-day
 unfolding loaded_by
-returns-then-not-is_done c =
+returns-in_err-day c =
     let a = c.args in
     let q = c.requires in
     let m = memory a.words.now a.bytes.now a.table.now in
-    let ws = windows_in a.w.now in
+    let ws = a.w.now in
     let s = store_at m a.i in
     let S = timed_loaded_store s a.f a.t a.epochs ws in
     let e = cut-store m a.i in
-    let l = c.load-r in
+    let l = c.load in
     let o = l.ensures in
     let v : store l.new.words l.new.bytes ≡ S = (λ k. record { words = o.words_after k; bytes = o.bytes_after k })
     ∙ ap (λ (x : Store). timed_loaded_store x a.f a.t a.epochs ws) e in
@@ -39,14 +37,12 @@ returns-then-not-is_done c =
     let lb : length S.bytes ≡ bytes_size = ap length (sym b) ∙ l.auto.bytes ∙ cut-bytes m a.i q.1 q.3 in
     let site : site_in S ≡ timed_loaded_site s a.f a.t a.epochs ws = ap site_in (sym v) ∙ o.bytes_after_2
     ∙ ap (λ (x : Store). timed_loaded_site x a.f a.t a.epochs ws) e in
-    let answer : l.result.answer ≡ stored_load_answer s a.f a.t a.epochs ws = ap (λ (x : DayAnswer). x.answer) o.value
-    ∙ ap (λ (x : Store). stored_load_answer x a.f a.t a.epochs ws) e in
-    let d : is_done (stored_load_answer s a.f a.t a.epochs ws) ≡ false = ap is_done (sym answer)
-    ∙ sym c.is_done.ensures ∙ c.if-not-is_done.true in record {
-      value = c.code.ensures ∙ ap number answer;
+    let told : l.result ≡ stored_load s a.f a.t a.epochs ws = o.value ∙ ap (λ (x : Store). stored_load x a.f a.t a.epochs ws) e in
+    let k = answered-err _ _ (sym told ∙ c.in_err-day.was) in record {
+      value = handed _ c.from_residual.ensures.1 ∙ sym k;
       words_after = words_back m a.i S lw w;
       bytes_after = bytes_back m a.i S lb b;
-      table_after = sym (skip _ _ _ _ d refl);
+      table_after = sym (skip _ _ _ _ (ap is_done k) refl);
       sized = ((lw, lb), site);
     }
 
@@ -69,11 +65,11 @@ returns c =
     let a = c.args in
     let q = c.requires in
     let m = memory a.words.now a.bytes.now a.table.now in
-    let ws = windows_in a.w.now in
+    let ws = a.w.now in
     let s = store_at m a.i in
     let S = timed_loaded_store s a.f a.t a.epochs ws in
     let e = cut-store m a.i in
-    let l = c.load-r in
+    let l = c.load in
     let o = l.ensures in
     let v : store l.new.words l.new.bytes ≡ S = (λ k. record { words = o.words_after k; bytes = o.bytes_after k })
     ∙ ap (λ (x : Store). timed_loaded_store x a.f a.t a.epochs ws) e in
@@ -83,18 +79,16 @@ returns c =
     let lb : length S.bytes ≡ bytes_size = ap length (sym b) ∙ l.auto.bytes ∙ cut-bytes m a.i q.1 q.3 in
     let site : site_in S ≡ timed_loaded_site s a.f a.t a.epochs ws = ap site_in (sym v) ∙ o.bytes_after_2
     ∙ ap (λ (x : Store). timed_loaded_site x a.f a.t a.epochs ws) e in
-    let answer : l.result.answer ≡ stored_load_answer s a.f a.t a.epochs ws = ap (λ (x : DayAnswer). x.answer) o.value
-    ∙ ap (λ (x : Store). stored_load_answer x a.f a.t a.epochs ws) e in
-    let d : is_done (stored_load_answer s a.f a.t a.epochs ws) ≡ true = ap is_done (sym answer)
-    ∙ sym c.is_done.ensures
-    ∙ c.if-not-is_done.false in
+    let told : l.result ≡ stored_load s a.f a.t a.epochs ws = o.value ∙ ap (λ (x : Store). stored_load x a.f a.t a.epochs ws) e in
+    let k = answered-ok _ _ (sym told ∙ c.in_ok-day.was) in
+    let d = k.0 in
     let p : length (freed a.a (places_in a.table.now)) ≡ top_places = length-freed a.a (places_in a.table.now)
     ∙ length-take-le top_places a.table.now (omega (arith, q.2)) in record {
-      value = sym (ap number (done-is (stored_load_answer s a.f a.t a.epochs ws) d));
+      value = sym (done-is (stored_load_answer s a.f a.t a.epochs ws) d);
       words_after = words_back m a.i S lw w;
       bytes_after = bytes_back m a.i S lb b;
       table_after = c.set_site_slot.ensures
-          ∙ table-back a.table.now a.i p c.free.ensures refl
+          ∙ table-back a.table.now a.i p c.free.ensures k.1
           ∙ sym (hit _ _ _ d);
       sized = ((lw, lb), site);
     }

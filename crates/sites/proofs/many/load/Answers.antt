@@ -1,7 +1,6 @@
 -- The number and the lengths are tested first; then the load goes to its site.
-use mathlib.Core.Path.{sym, ◌∙◌}
+use mathlib.Core.Path.{refl, sym, ◌∙◌}
 use native.Mathlib.Omega.{arith}
-use Rattle.windows.specs.Copies.{windows_in}
 use Rattle.group.proofs.Ground.{number_is}
 use Rattle.sites.specs.many.Memory.{memory}
 use Rattle.sites.proofs.many.Memories.{lengths}
@@ -11,9 +10,8 @@ use Rattle.sites.proofs.many.load.Goals as goal
 pub returns-then-not-is_number : goal.returns-then-not-is_number
 returns-then-not-is_number c =
     let a = c.args in
-    let whole = no_number (memory a.words.now a.bytes.now a.table.now) a.a a.f a.t a.epochs (windows_in a.w.now)
-    (sym c.is_number.ensures ∙ c.if-not-is_number.true)
-    c.code.ensures in record {
+    let whole = no_number (memory a.words.now a.bytes.now a.table.now) a.a a.f a.t a.epochs a.w.now
+    (sym c.is_number.ensures ∙ c.if-not-is_number.true) refl in record {
       value = whole.0;
       words_after = whole.1.0;
       bytes_after = whole.1.1.0;
@@ -24,10 +22,9 @@ returns-then-not-is_number c =
 pub returns-then-too_few : goal.returns-then-too_few
 returns-then-too_few c =
     let a = c.args in
-    let whole = no_room (memory a.words.now a.bytes.now a.table.now) a.a a.f a.t a.epochs (windows_in a.w.now)
+    let whole = no_room (memory a.words.now a.bytes.now a.table.now) a.a a.f a.t a.epochs a.w.now
     (sym c.is_number.ensures
-    ∙ c.if-not-is_number.false) (sym c.too_few.ensures ∙ c.if-too_few.true)
-    c.code-then-too_few.ensures in record {
+    ∙ c.if-not-is_number.false) (sym c.too_few.ensures ∙ c.if-too_few.true) refl in record {
       value = whole.0;
       words_after = whole.1.0;
       bytes_after = whole.1.1.0;
@@ -56,7 +53,7 @@ returns c =
     let n = sym c.is_number.ensures ∙ c.if-not-is_number.false in
     let o = c.load_at.ensures in
     let z = o.sized in
-    let whole = any-load (memory a.words.now a.bytes.now a.table.now) a.a a.f a.t a.epochs (windows_in a.w.now) n
+    let whole = any-load (memory a.words.now a.bytes.now a.table.now) a.a a.f a.t a.epochs a.w.now n
     (sym c.too_few.ensures
     ∙ c.if-too_few.false) o.value o.words_after o.bytes_after
     o.table_after z.0 z.1 in record {

@@ -1,8 +1,7 @@
 -- Rows of the right number make a table and go to the load; any others are refused in its order.
-use mathlib.Core.Path.{sym, ◌∙◌, subst}
+use mathlib.Core.Path.{refl, sym, ◌∙◌, subst}
 use borrow.Author.Tests.{eq-eqb, ne_eqb}
 use Rattle.site.specs.declared.Table.{Table}
-use Rattle.windows.specs.Copies.{windows_in}
 use Rattle.sites.specs.many.Memory.{memory}
 use Rattle.sites.proofs.many.Groups.{LoadIs}
 use Rattle.sites.proofs.many.Lines.{rows-load, rows-number, rows-room, rows_none}
@@ -13,10 +12,10 @@ returns-then-rows-f c =
     let a = c.args in
     let o = c.load in
     let e = o.ensures in
-    let whole = rows-load (memory a.words.now a.bytes.now a.table.now) a.a a.f a.rows.now a.epochs (windows_in a.w.now)
+    let whole = rows-load (memory a.words.now a.bytes.now a.table.now) a.a a.f a.rows.now a.epochs a.w.now
     (eq-eqb _ _ c.if-rows-f.true)
     (subst (λ (t : Table). LoadIs (memory a.words.now a.bytes.now a.table.now) a.a a.f t a.epochs
-    (windows_in a.w.now) o.result o.new.words o.new.bytes o.new.table)
+    a.w.now o.result o.new.words o.new.bytes o.new.table)
     c.table_of.ensures (e.value, (e.words_after, (e.bytes_after, (e.table_after, e.by_index))))) in record {
       value = whole.0;
       words_after = whole.1.0;
@@ -28,10 +27,9 @@ returns-then-rows-f c =
 pub returns-then-not-is_number : goal.returns-then-not-is_number
 returns-then-not-is_number c =
     let a = c.args in
-    let whole = rows-number (memory a.words.now a.bytes.now a.table.now) a.a a.f a.rows.now a.epochs (windows_in a.w.now)
+    let whole = rows-number (memory a.words.now a.bytes.now a.table.now) a.a a.f a.rows.now a.epochs a.w.now
     (ne_eqb _ _ c.if-rows-f.false)
-    (sym c.is_number.ensures ∙ c.if-not-is_number.true)
-    c.code.ensures in record {
+    (sym c.is_number.ensures ∙ c.if-not-is_number.true) refl in record {
       value = whole.0;
       words_after = whole.1.0;
       bytes_after = whole.1.1.0;
@@ -43,11 +41,10 @@ pub returns-then-too_few : goal.returns-then-too_few
 returns-then-too_few c =
     let a = c.args
     in
-    let whole = rows-room (memory a.words.now a.bytes.now a.table.now) a.a a.f a.rows.now a.epochs (windows_in a.w.now)
+    let whole = rows-room (memory a.words.now a.bytes.now a.table.now) a.a a.f a.rows.now a.epochs a.w.now
     (ne_eqb _ _ c.if-rows-f.false)
     (sym c.is_number.ensures
-    ∙ c.if-not-is_number.false) (sym c.too_few.ensures ∙ c.if-too_few.true)
-    c.code-then-too_few.ensures in record {
+    ∙ c.if-not-is_number.false) (sym c.too_few.ensures ∙ c.if-too_few.true) refl in record {
       value = whole.0;
       words_after = whole.1.0;
       bytes_after = whole.1.1.0;
@@ -59,11 +56,10 @@ pub returns : goal.returns
 returns c =
     let a = c.args
     in
-    let whole = rows_none (memory a.words.now a.bytes.now a.table.now) a.a a.f a.rows.now a.epochs (windows_in a.w.now)
+    let whole = rows_none (memory a.words.now a.bytes.now a.table.now) a.a a.f a.rows.now a.epochs a.w.now
     (ne_eqb _ _ c.if-rows-f.false)
     (sym c.is_number.ensures
-    ∙ c.if-not-is_number.false) (sym c.too_few.ensures ∙ c.if-too_few.false)
-    c.code-2.ensures in record {
+    ∙ c.if-not-is_number.false) (sym c.too_few.ensures ∙ c.if-too_few.false) refl in record {
       value = whole.0;
       words_after = whole.1.0;
       bytes_after = whole.1.1.0;

@@ -1,5 +1,4 @@
-use mathlib.Core.Path.{refl, sym, ap, ◌∙◌}
-use Rattle.node.specs.Answers.{number}
+use mathlib.Core.Path.{refl, sym, ◌∙◌}
 use Rattle.words.proofs.Tests.{hit, skip}
 use Rattle.sites.specs.one.Calls.{showing_of, out_node_of}
 use Rattle.sites.proofs.one.hydra_site_node.Goals as goal
@@ -8,7 +7,7 @@ pub returns-then-lacks : goal.returns-then-lacks
 unfolding showing_of out_node_of
 returns-then-lacks c =
     let h = sym c.lacks.ensures ∙ c.if-lacks.true in record {
-      value = c.code.ensures ∙ ap number (sym (hit _ _ _ h));
+      value = sym (hit _ _ _ h);
       out_after = sym (hit _ _ _ h);
     }
 
@@ -17,6 +16,6 @@ unfolding showing_of out_node_of
 returns c =
     let h = sym c.lacks.ensures ∙ c.if-lacks.false in
     let o = c.show.ensures in record {
-      value = o.value ∙ ap number (sym (skip _ _ _ _ h refl));
+      value = o.value ∙ sym (skip _ _ _ _ h refl);
       out_after = o.out_after ∙ sym (skip _ _ _ _ h refl);
     }

@@ -12,7 +12,7 @@ use Rattle.sites.proofs.one.show.Goals as goal
 pub returns-then-short-out : goal.returns-then-short-out
 returns-then-short-out c =
     let a = c.args in
-    let whole = no_room (store a.words.now a.bytes.now) a.j a.out.now c.if-short-out.true c.code.ensures in record {
+    let whole = no_room (store a.words.now a.bytes.now) a.j a.out.now c.if-short-out.true in record {
       value = whole.0;
       out_after = whole.1;
     }
@@ -24,8 +24,7 @@ returns-then-outside c =
     let few = c.if-short-out.false in
     let h = (or-neither (too_short s) (ltb (length a.out.now) shown_size) few).0 in
     let whole = no_node s a.j a.out.now few
-    (outside-is s a.j h c.header-k.ensures c.outside.ensures ∙ c.if-outside.true)
-    c.code-then-outside.ensures in record {
+    (outside-is s a.j h c.header-k.ensures c.outside.ensures ∙ c.if-outside.true) in record {
       value = whole.0;
       out_after = whole.1;
     }
@@ -47,7 +46,7 @@ returns c =
     let few = c.if-short-out.false in
     let h = (or-neither (too_short s) (ltb (length a.out.now) shown_size) few).0 in
     let o = outside-is s a.j h c.header-k.ensures c.outside.ensures ∙ c.if-outside.false in
-    let whole = shows s a.j a.out.now few o c.code-2.ensures c.put_node.ensures.is in record {
+    let whole = shows s a.j a.out.now few o c.put_node.ensures.is in record {
       value = whole.0;
       out_after = whole.1;
     }

@@ -1,9 +1,9 @@
 use mathlib.Core.Path.{◌≡◌}
-use Prim.Native.Nat.{◌≤◌, ◌+◌}
-use lib.ListN.{length, drop}
+use Prim.Native.Nat.{◌+◌}
+use lib.ListN.{drop}
 use Rattle.text.specs.Read.{before}
 use Rattle.group.specs.Places.{place}
 use Rattle.sites.proofs.places.place_of.Given as goal
 
 abbrev pub invariant-loop-i : goal.invariant-loop-i
-invariant-loop-i l = (l.i ≤ l.n) × (l.n ≡ length l.places) × (place l.x l.places ≡ l.i + before l.x (drop l.i l.places))
+invariant-loop-i l = place l.x l.places ≡ l.i + before l.x (drop l.i l.places)

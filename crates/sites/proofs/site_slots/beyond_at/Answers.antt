@@ -8,29 +8,12 @@ use Rattle.sites.specs.many.Memory.{memory, site_slot_in}
 use Rattle.sites.proofs.many.Memories.{taken-beyond}
 use Rattle.sites.proofs.site_slots.beyond_at.Goals as goal
 
-pub returns-then-table-i-ne1 : goal.returns-then-table-i-ne1
+pub returns-then-table-i-ne1-clause-value : goal.returns-then-table-i-ne1-clause-value
 unfolding site_slot_in
-returns-then-table-i-ne1 c = record {
-  value = sym (ap beyond (skip _ _ _ _ (ne_eqb _ _ c.if-table-i-ne1.true) refl));
-  within = omega arith;
-}
+returns-then-table-i-ne1-clause-value c = sym (ap beyond (skip _ _ _ _ (ne_eqb _ _ c.if-table-i-ne1.true) refl))
 
-pub returns-then-n-lt16 : goal.returns-then-n-lt16
-returns-then-n-lt16 c =
+pub returns-clause-value : goal.returns-clause-value
+returns-clause-value c =
     let a = c.args in
-    let e = c.packets-n.ensures in
-    let q = taken-beyond (memory a.words.now a.bytes.now a.table.now) a.i c.if-table-i-ne1.false
-    e.value in record {
-      value = omega (arith, q);
-      within = omega arith;
-    }
-
-pub returns : goal.returns
-returns c =
-    let a = c.args in
-    let e = c.packets-n.ensures in
-    let q = taken-beyond (memory a.words.now a.bytes.now a.table.now) a.i c.if-table-i-ne1.false
-    e.value in record {
-      value = omega (arith, q);
-      within = omega (arith, e.within);
-    }
+    let q = taken-beyond (memory a.words.now a.bytes.now a.table.now) a.i c.if-table-i-ne1.false c.packets-n.ensures.value in
+    omega (arith, q, c.saturating_sub.ensures)

@@ -1,11 +1,11 @@
 -- The bytes of the packet's place go to the hear.
-use mathlib.Core.Path.{◌≡◌, sym, ap, ◌∙◌}
+use mathlib.Core.Path.{◌≡◌, ap, ◌∙◌}
+use mathlib.Core.Bool.{not}
 use Prim.Native.Nat.{◌-◌, ◌≤◌}
 use native.Mathlib.Omega.{arith}
 use lib.ListN.{length}
 use lib.Seq.{take_all}
-use Rattle.node.specs.Answers.{number}
-use Rattle.node.specs.declared.Answer.{Answer}
+use Rattle.node.specs.Answers.{Answer}
 use Rattle.wire.specs.Reads.{part_of}
 use Rattle.site.specs.Counts.{packets}
 use Rattle.machine.specs.Layout.{Store, store, site_in}
@@ -15,8 +15,8 @@ use Rattle.sites.proofs.many.Hears.{part-there, heard-done, heard-refused}
 use borrow.Author.Rules.{rules}
 use Rattle.sites.proofs.turns.hear.Goals as goal
 
-pub returns-then-not-is_done : goal.returns-then-not-is_done
-returns-then-not-is_done c =
+pub returns-then-is_err : goal.returns-then-is_err
+returns-then-is_err c =
     let a = c.args
     in
     let p = c.requires
@@ -29,11 +29,9 @@ returns-then-not-is_done c =
     let f : 1 ≤ a.p → a.p ≤ packets (site_in s).sent → part_of part 0 ≡ part_of own (a.p - 1) = λ h k. t
     ∙ c.heard_bytes-part.ensures
     ∙ part-there s a.list.now a.area.now a.a a.p h k in
-    let h = sym c.is_done.ensures
-    ∙ c.if-not-is_done.true in
+    let h = c.is_err.ensures.negation ∙ ap not c.if-is_err.true in
     let z = heard-refused s p.0 p.1 (part_of part 0) own a.j a.p f a.o h in record {
-      value = c.code.ensures ∙ ap number (c.first_of.ensures
-          ∙ ap (λ (x : Answer). first_refusal x a.o) c.answer_from-plain.ensures ∙ z.0);
+      value = c.first_of.ensures ∙ ap (λ (x : Answer). first_refusal x a.o) c.answer_from.ensures ∙ z.0;
       words_after = ap (λ (x : Store). x.words) z.1;
       bytes_after = ap (λ (x : Store). x.bytes) z.1;
     }
@@ -50,11 +48,10 @@ returns c =
     let f : 1 ≤ a.p → a.p ≤ packets (site_in s).sent → part_of part 0 ≡ part_of own (a.p - 1) = λ h k. t
     ∙ c.heard_bytes-part.ensures
     ∙ part-there s a.list.now a.area.now a.a a.p h k in
-    let h = sym c.is_done.ensures
-    ∙ c.if-not-is_done.false in
+    let h = c.is_err.ensures.negation ∙ ap not c.if-is_err.false in
     let z = heard-done s p.0 p.1 (part_of part 0) own a.j a.p f a.o h in
-    let o = c.hear_from-answer.ensures in record {
-      value = c.code-2.ensures ∙ ap number (o.value ∙ z.0);
+    let o = c.hear_from.ensures in record {
+      value = o.value ∙ z.0;
       words_after = o.words_after ∙ ap (λ (x : Store). x.words) z.1;
       bytes_after = o.bytes_after ∙ ap (λ (x : Store). x.bytes) z.1;
     }

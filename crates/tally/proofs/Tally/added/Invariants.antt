@@ -1,5 +1,5 @@
 use mathlib.Core.Path.{◌≡◌}
-use Prim.Native.Nat.{◌≤◌, ◌-◌, ◌+◌, ◌*◌}
+use Prim.Native.Nat.{◌≤◌, ◌+◌, ◌*◌}
 use mathlib.Core.List.{◌++◌}
 use lib.Dec.{ltb}
 use lib.ListN.{length, drop, get_or}
@@ -11,7 +11,7 @@ use Rattle.tally.proofs.Tally.added.Given as goal
 
 abbrev pub invariant-loop-i : goal.invariant-loop-i
 invariant-loop-i l =
-    (l.i ≤ 32) × (length l.initial.slots ≡ 32) × (length l.initial.held ≡ 32)
-    × (l.slots ≡ tab l.i (λ j. slots_at l.self j + get_or l.numbers j 0) ++ drop l.i l.initial.slots)
-    × (l.held ≡ tab l.i (λ j. held_at l.self j + digit (ltb 0 (get_or l.numbers j 0))) ++ drop l.i l.initial.held)
-    × (l.total ≡ l.self.total + summed l.i (λ j. get_or l.numbers j 0)) × (l.total ≤ l.self.total + 255 * l.i)
+    (length l.initial.slots ≡ 32) × (length l.initial.held ≡ 32)
+    × (l.slots ≡ tab l.i (λ j. slots_at l.fn.self j + get_or l.fn.numbers j 0) ++ drop l.i l.initial.slots)
+    × (l.held ≡ tab l.i (λ j. held_at l.fn.self j + digit (ltb 0 (get_or l.fn.numbers j 0))) ++ drop l.i l.initial.held)
+    × (l.total ≡ l.fn.self.total + summed l.i (λ j. get_or l.fn.numbers j 0)) × (l.total ≤ l.fn.self.total + 255 * l.i)

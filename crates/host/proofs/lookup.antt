@@ -1,2 +1,0 @@
--- The copy of a lent list gives what the list gives.
-pub mod Seen

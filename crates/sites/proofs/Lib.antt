@@ -1,2 +1,0 @@
--- Sites in lent memory for C.
-pub mod NoWindows
