@@ -11,7 +11,7 @@ use native.Mathlib.Omega.{arith}
 use borrow.Author.Tests.{ltb-true, ltb-false, leb-true, eqb-true, eqb-false, lt-ltb, eq-eqb, ne_eqb}
 use lib.Dec.{eqb, ltb, leb, eqb-zero-suc}
 use lib.ListN.{length, get_or, set, drop, replicate, length-set, get_or-eq_default, drop_of_length-le}
-use lib.Seq.{ext_get_or, drop-cons, get_or-set_same, get_or-set_other}
+use lib.Seq.{ext_get_or, drop-cons, get_or-drop, get_or-set_same, get_or-set_other}
 use Rattle.words.specs.Bits.{has_bit, digit, how_many}
 use Rattle.words.proofs.Tests.{clash, by-test, same_or_not, is_false, hit, skip, and_left, and_right, and-rest, or-front, or-rest}
 use Rattle.words.proofs.Tests.{or-neither}
@@ -92,15 +92,22 @@ total-full (x ∷ l) [] h f (suc i) = omega (arith, h (suc i))
 total-full (x ∷ l) (y ∷ t) h f zero = omega (arith, h 0, total-le l t (λ m. h (suc m)))
 total-full (x ∷ l) (y ∷ t) h f (suc i) = total-full l t (λ m. h (suc m)) (omega (arith, h 0)) i
 
--- the sum from an index on: one more, and none behind the end
+-- the sum from an index on: one more, and none behind the last that is above 0
 pub total-more : (l : List ℕ) (i : ℕ) → i < length l → total (drop i l) ≡ get_or l i 0 + total (drop (i + 1) l)
 unfolding total
 total-more l i h = let e : i + 1 ≡ suc i = omega arith in ap total (drop-cons l i 0 h)
     ∙ ap (λ (x : ℕ). get_or l i 0 + total (drop x l)) (sym e)
 
-pub total-end : (l : List ℕ) (i : ℕ) → length l ≤ i → total (drop i l) ≡ 0
+pub total-end : (l : List ℕ) (i : ℕ) → ((j : ℕ) → i ≤ j → get_or l j 0 ≡ 0) → total (drop i l) ≡ 0
+total-end l i z =
+    let h : total (drop i l) ≤ total (replicate 0 0) = total-le (drop i l) (replicate 0 0)
+    (λ j. omega (arith, get_or-drop i l j 0, z (i + j) (omega arith))) in
+    omega (arith, h, total-zeros 0)
+
+-- nor behind the end
+pub total-past : (l : List ℕ) (i : ℕ) → length l ≤ i → total (drop i l) ≡ 0
 unfolding total
-total-end l i h = ap total (drop_of_length-le l {i = i} h)
+total-past l i h = ap total (drop_of_length-le l {i = i} h)
 
 -- a list whose owners are the other's, or none, has no more slots of any
 count-le : (j : ℕ) (l t : List ℕ) → ((k : ℕ) → (get_or l k 0 ≡ 0) ⊎ (get_or l k 0 ≡ get_or t k 0)) → count (suc j) l ≤ count (suc j) t

@@ -20,7 +20,7 @@ use Rattle.site.specs.Model.{Site}
 use Rattle.site.specs.declared.Event.{Event}
 use Rattle.site.specs.declared.Event.TheVariants.{Send, Close}
 use Rattle.machine.specs.timed.Timed.{Timed, timed_after}
-use Rattle.machine.proofs.Refused.{zero-done}
+use Rattle.node.proofs.Answers.{zero-done}
 use Rattle.machine.proofs.timed.Laws.{plain-answer, plain-after}
 use Rattle.group.specs.Group.{SiteSlot, Empty, Taken, Group, is_number, site_slot_of, packets_in, own_share, common_share, beyond, common}
 use Rattle.group.specs.Group.{own_area}

@@ -1,28 +1,27 @@
 // Standard input of the desk's programs: a script, read to the start of a lent buffer.
 #![tactic(auto)]
 
-ghost use Rattle.std.specs.Prelude.{IfOk};
-ghost use Rattle.input.specs.Counts.{IsPrefixLen};
+ghost use Rattle.input.specs.Counts.{IsPrefixLen, came};
 
 use std::env::{Env, FillError};
 use std::io::{Print, Read};
 
-// Why there is nothing to run: the program was given arguments, or a read failed before the input ended.
+// Why there is nothing to run: the program was given arguments, or a read failed before the input ended, behind so many bytes.
 #[derive(Clone, Copy, Debug, PartialEq, Eq)]
 pub enum InputError {
     Arguments,
-    Unread,
+    Unread(usize),
 }
 
-// Reads an input until it ends, the buffer is full, or a read fails: how many bytes stand at the start of the buffer. Which bytes came, no
-// contract of a read says.
+// Reads an input until it ends, the buffer is full, or a read fails: how many bytes stand at the start of the buffer, after a failure too.
+// Which bytes came, no contract of a read says.
 fn read_input<R: Read>(from: &mut R, buffer: &mut [u8]) -> Result<usize, InputError>
-    ensures { IfOk result (λ n. IsPrefixLen n buffer.new) }
+    ensures { IsPrefixLen (came result) buffer.new }
 {
     let mut n = 0usize;
     while n < buffer.len() {
         let Ok(more) = from.read(&mut buffer[n..]) else {
-            return Err(InputError::Unread);
+            return Err(InputError::Unread(n));
         };
         if more == 0 {
             break;
@@ -45,7 +44,7 @@ pub fn script(
     usage: &[u8],
     unread: &[u8],
 ) -> Result<usize, InputError>
-    ensures { IfOk result (λ n. IsPrefixLen n buffer.new) }
+    ensures { IsPrefixLen (came result) buffer.new }
 {
     if has_arguments(rt) {
         let _ = rt.stderr().write_all(usage);

@@ -1,7 +1,7 @@
 -- Laws of lists of bytes.
 -- Assumes nothing.
 use mathlib.Core.Path.{◌≡◌, refl, sym, ap, ap₂, ◌∙◌}
-use mathlib.Core.Bool.{Bool, true, false, ◌&&◌}
+use mathlib.Core.Bool.{Bool, true, false, ◌&&◌, and-false}
 use lib.Pointwise.{pointwise}
 use mathlib.Core.List.{List, [], ◌∷◌, ◌++◌, append_assoc, append-nil}
 use Prim.Native.Nat.{ℕ, zero, suc, min, ◌+◌, ◌-◌, ◌*◌, ◌/◌, ◌%◌, ◌≤◌, ◌<◌}
@@ -103,6 +103,13 @@ module _ {A : Type 0} where
   tab-ext (suc n) f g h = ap₂ (λ (l : List A) (x : A). l ++ (x ∷ [])) (tab-ext n f g (λ i l. h i (omega arith))) (h n (omega arith))
 
 -- comparison
+pub same-lengths : (s t : List ℕ) → (length s ≡ length t → ⊥) → same s t ≡ false
+unfolding same
+same-lengths [] [] h = absurd (h refl)
+same-lengths [] (y ∷ t) h = refl
+same-lengths (x ∷ s) [] h = refl
+same-lengths (x ∷ s) (y ∷ t) h = ap (λ (b : Bool). eqb x y && b) (same-lengths s t (λ e. h (ap suc e))) ∙ and-false (eqb x y)
+
 pub same_refl : (s : List ℕ) → same s s ≡ true
 unfolding same
 same_refl [] = refl

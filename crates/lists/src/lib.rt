@@ -110,7 +110,9 @@ pub fn put_bytes(out: &mut [u8], at: usize, s: &[u8]) -> usize
     if out.len() - at < s.len() {
         return at;
     }
-    let next = at + s.len();
-    out[at..next].copy_from_slice(s);
-    next
+    // Kept: byte by byte. `copy_from_slice` is a call of memmove where the length isn't known before the run; else it tests for overlap.
+    for (i, b) in s.iter().enumerate() {
+        out[at + i] = *b;
+    }
+    at + s.len()
 }

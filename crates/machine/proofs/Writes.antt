@@ -5,16 +5,17 @@ use mathlib.Core.Bool.{Bool, true, false}
 use mathlib.Core.List.{List, [], ◌∷◌, ◌++◌, append_assoc}
 use Prim.Native.Nat.{ℕ, ◌+◌, ◌-◌, ◌≤◌, ◌<◌}
 use native.Mathlib.Omega.{arith}
+use native.Mathlib.Numerals.{add-one}
 use borrow.Author.Tests.{ltb-true, ltb-false}
 use lib.Dec.{ltb}
-use lib.ListN.{length, get_or, set, length-append, length-set}
-use lib.Seq.{ext_get_or, get_or-set_same, get_or-set_other}
-use Rattle.lists.specs.Bytes.{written}
+use lib.ListN.{length, get_or, set, take, length-append, length-set}
+use lib.Seq.{take-suc, take_all, length-take-le, ext_get_or, get_or-set_same, get_or-set_other}
+use Rattle.lists.specs.Bytes.{written, Put}
 use Rattle.words.proofs.Tests.{same_or_not}
 use borrow.Rule.Slice.PartMut.{put_mid}
 use Rattle.lists.proofs.Laws.{length-written, part-written}
 use Rattle.lists.proofs.Places.{before-written, in-written, behind-written}
-use Rattle.lists.proofs.Chain.{written-more, one}
+use Rattle.lists.proofs.Chain.{written-more, one, then}
 
 -- two parts
 pub two : {m n : List ℕ} (l a b : List ℕ) (at to : ℕ) → m ≡ written l at a → n ≡ written m to b → to ≡ at + length a → at
@@ -27,6 +28,19 @@ pub three : {m n o : List ℕ} (l a b c : List ℕ) (at to end : ℕ) → m ≡ 
 three {m} {n} {o} l a b c at to end e f g h k r =
     two l (a ++ b) c at end (two l a b at to e f h (omega arith)) g (omega (arith, length-append a b)) (omega (arith, length-append a b))
     ∙ ap (written l at) (append_assoc a b c)
+
+-- a loop that puts a list at a place: one number more, and its end
+module _ (l b : List ℕ) (at : ℕ) (h : at + length b ≤ length l) where
+  pub put-more : {m : List ℕ} (i : ℕ) → i < length b → length m ≡ length l → Put l at (take i b) (at + i) m
+      → Put l at (take (i + 1) b) (at + (i + 1)) (set m (at + i) (get_or b i 0))
+  put-more {m} i g n p =
+      let j : at + i + 1 ≤ length m = omega arith in
+      let k : at + length (take i b) ≤ length l = rw (length-take-le i b (omega arith)) (omega arith) in
+      let e : at + i + 1 ≡ at + (i + 1) = omega arith in
+      rw (← e, add-one i, take-suc b i 0) (then k p (one m (at + i) (get_or b i 0) j))
+
+  pub put-end : {m : List ℕ} (i : ℕ) → length b ≤ i → Put l at (take i b) (at + i) m → m ≡ written l at b
+  put-end i g p = p.is ∙ ap (written l at) (take_all i b g)
 
 -- a list that was copied to a place
 pub put-copy : {m : List ℕ} (l b : List ℕ) (at n : ℕ) → m ≡ b → length b ≡ n → put_mid at (at + n - at) l m ≡ written l at b

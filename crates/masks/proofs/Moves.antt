@@ -8,17 +8,17 @@ use Prim.Native.Nat.{ℕ, zero, suc, min, ◌+◌, ◌-◌, ◌*◌, ◌/◌, �
 use native.Mathlib.Nat.{add-zero, add-suc, mul-zero, mul-suc, mul-add}
 use native.Mathlib.Omega.{arith}
 use lib.Dec.{eqb, leb, ltb}
-use lib.ListN.{length, get_or, take, drop, replicate, length-replicate, get_or-append}
+use lib.ListN.{length, get_or, set, take, drop, replicate, length-replicate, get_or-append}
 use lib.ListN.{get_or-eq_default, length-append, length-drop, take-append-drop}
 use lib.ListN.{replicate-append-replicate}
 use lib.Seq.{ext_get_or, get_or-drop, take_at, length-take-le, drop-drop}
 use borrow.Author.Tests.{eq-eqb, eqb-true, le-leb, lt-leb, lt-ltb, le-ltb, ltb-true, ltb-false}
 use Rattle.words.proofs.Tests.{by-test, hit, skip, both, and_left, and_right, and-rest, or-front, or-back, or-rest}
 use Rattle.lists.specs.All.{bounded, tab}
-use Rattle.lists.specs.Bytes.{window, span, written, Tried}
+use Rattle.lists.specs.Bytes.{window, span, written, Put, Tried}
 use Rattle.lists.proofs.Bounded.{bounded-over}
 use Rattle.lists.proofs.Laws.{length-tab, tab-ext, get_d-tab, get_d-zeros, length-written, all-at, all-make}
-use Rattle.lists.proofs.Chain.{written-more}
+use Rattle.lists.proofs.Chain.{written-more, then, one, recast}
 use Rattle.lists.proofs.Places.{written_over, before-written, behind-written}
 use Rattle.masks.specs.Slots.{Masks}
 use Rattle.masks.specs.Slots.{low_of, high_of, count_of, masks_of, no_owners}
@@ -138,6 +138,13 @@ module _ (l : List ℕ) (b : Bytes l) where
     high-fails e = sym (ap (λ (t : Bool). lows && (t && helds)) e ∙ and-false lows) ∙ rest-is
 
 -- Zeros
+
+-- one more
+pub zeros-more : (l m : List ℕ) (at i : ℕ) → at + i + 1 ≤ length l → Put l at (replicate i 0) (at + i) m → length m ≡ length l
+    → Put l at (replicate (i + 1) 0) (at + i + 1) (set m (at + i) 0)
+zeros-more l m at i h p e =
+    let k : length {A = ℕ} (replicate i 0) ≡ i = length-replicate i 0 in
+    recast (replicate-append-replicate i 1 0) (then (omega (arith, h, k)) p (one m (at + i) 0 (omega (arith, h, e))))
 
 -- written where they stand already
 pub zeros-again : (l : List ℕ) (at n : ℕ) → at + n ≤ length l → bounded (span l at n) 0 0 ≡ true → l ≡ written l at (replicate n 0)

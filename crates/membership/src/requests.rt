@@ -83,7 +83,8 @@ fn agree_at(x: u8, y: u8) -> bool
     x == NONE || y == NONE || x == y
 }
 
-// Whether no node has two different requests in the two lists.
+// Whether no node has two different requests in the two lists. Apart: inlined into a site's hear, the loop would be 32 tests, one by one.
+#[inline(never)]
 pub fn agree(a: [u8; 32], b: [u8; 32]) -> bool
     ensures { result ≡ agree a b }
 {

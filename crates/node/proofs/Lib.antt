@@ -6,6 +6,7 @@ pub mod Majority
 pub mod Made
 pub mod Tested
 pub mod Ended
+pub mod Tests
 pub mod Cores
 pub mod Bare
 pub mod Phases

@@ -8,9 +8,9 @@ use native.Mathlib.Omega.{arith}
 use borrow.Author.Tests.{leb-true, leb-false}
 use lib.Dec.{leb}
 use lib.ListN.{length, take, drop, length-append, take-append-drop}
-use lib.Seq.{take_at}
+use lib.Seq.{take_all, take_at}
 use Rattle.lists.specs.Bytes.{Tried}
-use Rattle.lists.proofs.Chain.{none, tried, not-tried}
+use Rattle.lists.proofs.Chain.{put, none, tried, not-tried, length-put, front-is}
 use Rattle.text.specs.Read.{split}
 use Rattle.reduce.specs.Reduced.{TextLine, lines_in, joined_lines}
 use Rattle.reduce.specs.Inner.{Placed, placed_lines, in_front, keep, NextLine, line_text, line_of}
@@ -71,6 +71,13 @@ put-nothing l at = go (leb (at + 0) (length l)) refl
     go : (t : Bool) → leb (at + 0) (length l) ≡ t → Tried l at [] at l
     go true h = tried (leb-true (at + 0) (length l) h) (none l at)
     go false h = not-tried l [] at (leb-false (at + 0) (length l) h)
+
+-- bytes put over as many
+pub whole-put : {l b m : List ℕ} {n : ℕ} → length l ≡ length b → Tried l 0 b n m → m ≡ b
+whole-put {l} {b} {m} {n} e t =
+    let p = put {at = 0} (omega (arith, e)) t in
+    let k : length m ≡ length l = length-put {at = 0} (omega (arith, e)) p in
+    sym (take_all n m (omega (arith, k, e, p.to))) ∙ front-is p
 
 -- a part of the lines, and the rest
 joined-append : (ks ls : List TextLine) → joined_lines (ks ++ ls) ≡ joined_lines ks ++ joined_lines ls

@@ -69,6 +69,16 @@ kept_but ms lo hi i = not (leb lo i && ltb i hi) && kept ms i
 abbrev pub kept_from : List ℕ → List Bool → ℕ → List TextLine
 kept_from s ms at = keep (kept ms) (placed_lines at (split 10 (drop at s)))
 
+-- a run with nothing in it, whose first line starts at a place
+abbrev pub blank : ℕ → Run
+blank at = record {
+  at = at;
+  words = replicate 262 0;
+  bytes = replicate 24769 0;
+  area = replicate 11520 0;
+  day = record { length = 1; epoch = 0 };
+}
+
 -- the state of a run
 abbrev pub state_of : Run → TimedState
 state_of r = record { timed = timed_in (store r.words r.bytes) r.day; area = r.area }

@@ -9,7 +9,8 @@ ghost use Rattle.site.specs.Load.{load_answer};
 ghost use Rattle.desk.specs.listings.Output.{top_script, line_answer, line_after};
 ghost use Rattle.reduce.specs.Reduced.{lines_in, joined_lines, is_refusal};
 ghost use Rattle.reduce.specs.Calls.{start_state, Answers, Returns};
-ghost use Rattle.reduce.specs.Inner.{placed_lines, NextLine, says_of, line_text, kept, kept_but, kept_from, state_of, line_gives, line_run};
+ghost use Rattle.reduce.specs.Inner.{placed_lines, NextLine, says_of, line_text, kept, kept_but, kept_from, blank, state_of};
+ghost use Rattle.reduce.specs.Inner.{line_gives, line_run};
 ghost use Rattle.reduce.specs.Inner.{gives_but, gives_from, given, cleared, Passed, Spared, Scanned, Settled, opening_of, Ready, Stopped};
 
 use desk::listings::TOP_SCRIPT;
@@ -127,24 +128,38 @@ fn last_kept(marks: &Marks, n: usize) -> usize
 }
 
 impl Run {
-    // The run before the first event line of a script that opens. Settings and table that were read load. Apart, as are those below that hold
-    // a run: inlined into one another they would take the stack of all.
-    #[inline(never)]
-    fn load(o: Opened) -> Run
-        requires { load_answer o.config o.table ≡ Done }
-        ensures at { result.at ≡ o.at }
-        ensures state { state_of result ≡ start_state (opening_of o) }
+    // A run with nothing in it: zeros, and the place where its first line starts.
+    #[inline(always)]
+    fn blank(at: usize) -> Run
+        ensures { result ≡ blank at }
     {
-        let mut words = [0; WORDS];
-        let mut bytes = [0; BYTES];
-        let day = machine::timed::load(&mut words, &mut bytes, o.config, o.table, 1, &[]).unwrap();
         Run {
-            at: o.at,
-            words,
-            bytes,
+            at,
+            words: [0; WORDS],
+            bytes: [0; BYTES],
             area: [0; SiteHeader::AREA],
-            day,
+            day: Day {
+                length: 1,
+                epoch: 0,
+            },
         }
+    }
+
+    // A blank run before the first event line of a script that opens. Settings and table that were read load. In place: by value it is copied.
+    #[inline(never)]
+    fn load(&mut self, o: Opened)
+        requires { (load_answer o.config o.table ≡ Done) × (self.old ≡ blank o.at) }
+        ensures at { self.new.at ≡ o.at }
+        ensures state { state_of self.new ≡ start_state (opening_of o) }
+    {
+        self.day = machine::timed::load(
+            &mut self.words,
+            &mut self.bytes,
+            o.config,
+            o.table,
+            1,
+            &[],
+        ).unwrap();
     }
 
     // A line's event, or a refusal of the line. Tells whether the answer is the refusal of the number.
@@ -208,7 +223,8 @@ impl Search<'_> {
     fn given(&self, marks: &Marks) -> bool
         ensures { result ≡ given self.now.number self.now.script.now marks.now self.now.opened }
     {
-        let mut run = Run::load(self.opened);
+        let mut run = Run::blank(self.opened.at);
+        run.load(self.opened);
         self.gives(&mut run, marks, &(0..0))
     }
 
@@ -244,8 +260,20 @@ impl Search<'_> {
         true
     }
 
-    // The mark of a single place.
+    // The mark of a single place that has one. Apart, as are those below that hold a run: a function pays at its entry for what it holds, and
+    // inlined into one another they would take the stack of all.
     #[inline(never)]
+    fn attempt_marked(&self, marks: &mut Marks, at: usize) -> bool
+        requires { at < length self.now.script.now }
+        ensures value { result ≡ given self.now.number self.now.script.now (cleared marks.old at (at + 1)) self.now.opened }
+        ensures marks_after { marks.new ≡ cond result (cleared marks.old at (at + 1)) marks.old }
+    {
+        let mut run = Run::blank(self.opened.at);
+        run.load(self.opened);
+        self.attempt(&mut run, marks, at..at + 1)
+    }
+
+    // The mark of a single place, if it has one.
     fn attempt_line(&self, marks: &mut Marks, at: usize) -> bool
         requires { at < length self.now.script.now }
         ensures value { result ≡ (kept marks.old at
@@ -255,12 +283,20 @@ impl Search<'_> {
         if !marks[at] {
             return false;
         }
-        let mut run = Run::load(self.opened);
-        self.attempt(&mut run, marks, at..at + 1)
+        self.attempt_marked(marks, at)
     }
 
-    // The marks from the run's place on and below hi, if there are any. A copy of the run goes on.
+    // The marks from the run's place on and below hi. A copy of the run goes on. Apart, for the same reason.
     #[inline(never)]
+    fn attempt_range(&self, run: &Run, marks: &mut Marks, hi: usize)
+        requires { (run.now.at ≤ hi) × (hi ≤ length self.now.script.now) }
+        ensures { Spared self.now.number self.now.script.now marks.old run.now.at (state_of run.now) marks.new }
+    {
+        let mut own = *run;
+        self.attempt(&mut own, marks, run.at..hi);
+    }
+
+    // The same, if there are any.
     fn attempt_from(&self, run: &Run, marks: &mut Marks, hi: usize)
         requires { (run.now.at ≤ length self.now.script.now) × (hi ≤ length self.now.script.now) }
         ensures { Spared self.now.number self.now.script.now marks.old run.now.at (state_of run.now) marks.new }
@@ -272,8 +308,7 @@ impl Search<'_> {
         if !marks[at..hi].contains(&true) {
             return;
         }
-        let mut own = *run;
-        self.attempt(&mut own, marks, at..hi);
+        self.attempt_range(run, marks, hi);
     }
 
     // The marks of the event lines before a place.
@@ -282,7 +317,8 @@ impl Search<'_> {
         requires { (hi ≤ length self.now.script.now) × (given self.now.number self.now.script.now marks.old self.now.opened ≡ true) }
         ensures { given self.now.number self.now.script.now marks.new self.now.opened ≡ true }
     {
-        let run = Run::load(self.opened);
+        let mut run = Run::blank(self.opened.at);
+        run.load(self.opened);
         self.attempt_from(&run, marks, hi);
     }
 
@@ -315,7 +351,8 @@ impl Search<'_> {
         ensures { given self.now.number self.now.script.now marks.new self.now.opened ≡ true }
     {
         let n = self.script.len();
-        let mut run = Run::load(self.opened);
+        let mut run = Run::blank(self.opened.at);
+        run.load(self.opened);
         let mut lo = from;
         while lo < n {
             if self.run_to(&mut run, lo, marks) {

@@ -20,17 +20,18 @@ pub fn next_line(s: &[u8], at: usize) -> Line
     Line::Ended(e)
 }
 
-// The numbers of a line, with one space between: so many, and no more.
+// The numbers of a line, with one space between: so many, and no more. A line has a field always, and the last one is all that is left:
+// another space need not be looked for, since what it stands in is no number.
 pub fn numbers<const N: usize>(s: &[u8]) -> Option<[u32; N]>
     ensures { result ≡ numbers_of N (split 32 s.now) }
 {
+    if N == 0 {
+        return None;
+    }
     let mut found = [0; N];
-    let mut pieces = s.split(|&b| b == 32);
+    let mut pieces = s.splitn(N, |&b| b == 32);
     for x in found.iter_mut() {
         *x = text::number(pieces.next()?)?;
     }
-    match pieces.next() {
-        None => Some(found),
-        Some(_) => None,
-    }
+    Some(found)
 }

@@ -1,6 +1,6 @@
 -- Windows in order: where each stands behind the one before it, no two overlap.
 -- Assumes nothing.
-use mathlib.Core.Path.{◌≡◌, refl, sym, ap, ◌∙◌}
+use mathlib.Core.Path.{◌≡◌, refl, sym, ap, ap₂, ◌∙◌}
 use mathlib.Core.Bool.{Bool, true, false, not, ◌&&◌, and-false, and-true}
 use mathlib.Core.Logic.{◌⊎◌, inl, inr}
 use mathlib.Core.List.{List, [], ◌∷◌, ◌++◌}
@@ -17,6 +17,12 @@ use Rattle.lists.proofs.Laws.{all-at, all-make}
 use Rattle.windows.specs.Windows.{window_at, window_ok, overlap, entry_ok}
 use Rattle.windows.specs.Inner.{follows, ordered_at}
 use Rattle.windows.specs.declared.Window.{Window}
+
+-- two tests that are the same of each number below n
+pub all_same : (n : ℕ) (p q : ℕ → Bool) → ((i : ℕ) → i < n → p i ≡ q i) → all_below n p ≡ all_below n q
+unfolding all_below
+all_same zero p q h = refl
+all_same (suc n) p q h = ap₂ ◌&&◌ (all_same n p q (λ i l. h i (omega (arith, l)))) (h n (omega arith))
 
 -- a test that fails at one number below n
 pub all_fails : (n : ℕ) (p : ℕ → Bool) (i : ℕ) → i < n → p i ≡ false → false ≡ all_below n p

@@ -4,7 +4,7 @@ use lib.ListN.{length, get_or}
 use borrow.Author.Rules.{rules}
 use mir.Val.{Fits}
 use mir.Syntax.{w8}
-use Rattle.allotment.proofs.Laws.{total-more, total-end}
+use Rattle.allotment.proofs.Laws.{total-more, total-past}
 use Rattle.allotment.proofs.total.Goals as goal
 
 pub loop-x-init : goal.loop-x-init
@@ -28,4 +28,4 @@ pub returns : goal.returns
 returns c =
     let l = c.loop-x in
     let h : length c.args.wanted ≡ 32 = search rules in
-    omega (arith, l.invariant.1, total-end c.args.wanted l.x-index (omega (arith, h)))
+    omega (arith, l.invariant.1, total-past c.args.wanted l.x-index (omega (arith, h)))

@@ -11,7 +11,7 @@ use Rattle.words.proofs.Tests.{never, met?, hit, skip, read_same}
 use Rattle.node.specs.Answers.{number, is_done}
 use Rattle.node.specs.Answers.{Answer}
 use Rattle.node.specs.Answers.{Done, OutOfRange, NoRoom}
-use Rattle.node.proofs.Answers.{done-is}
+use Rattle.node.proofs.Answers.{done-is, zero-is}
 use Rattle.site.specs.Load.{loaded_site}
 use Rattle.site.specs.Events.{is_end}
 use Rattle.site.specs.declared.Event.{Event}
@@ -49,7 +49,6 @@ use Rattle.calls.specs.ledger.Ledger.{Called, step_for, steps_of}
 use Rattle.calls.specs.ledger.Ledger.{past_in, Begun}
 use Rattle.calls.specs.ledger.Ledger.{InMemory, Ledger}
 use Rattle.calls.proofs.ledger.Along.{step_kept_lem, Along, along-append, steps-append, along-past, accounted}
-use Rattle.calls.proofs.Zero.{zero-is}
 
 -- the site with its day, and its area, of what memory stands for with a tally
 abbrev placed : Kept → TimedState

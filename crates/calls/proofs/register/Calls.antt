@@ -29,7 +29,7 @@ use Rattle.sites.specs.many.Calls.{group_after_line}
 use Rattle.calls.specs.register.Register.{Lending, stands_for, GroupMade, LoadMade, EventMade, CallOf, Called}
 use Rattle.calls.specs.register.Register.{Calls, line_call, group_call}
 use Rattle.calls.specs.register.Register.{accepted}
-use Rattle.calls.proofs.Zero.{zero-is}
+use Rattle.node.proofs.Answers.{zero-is}
 
 run-append : (g : Group) (cs ds : List GroupCall) → run_group g (cs ++ ds) ≡ run_group (run_group g cs) ds
 unfolding run_group

@@ -12,7 +12,7 @@ use Rattle.words.proofs.Tests.{never, clash, hit, skip, or-neither, same_or_not}
 use Rattle.node.specs.Answers.{is_done, number}
 use Rattle.node.specs.Answers.{Answer}
 use Rattle.node.specs.Answers.{Done, Crowded}
-use Rattle.node.proofs.Answers.{done-is}
+use Rattle.node.proofs.Answers.{done-is, zero-is}
 use Rattle.site.specs.Answers.{area_size}
 use Rattle.site.specs.Events.{is_end}
 use Rattle.site.specs.declared.Event.{Event}
@@ -47,7 +47,6 @@ use Rattle.calls.specs.register.Register.{line_call, step_made, step_for, steps_
 use Rattle.calls.proofs.register.Calls.{one}
 use Rattle.calls.proofs.register.Seats.{here, plain_event, plain_line, plain_rows, short, line_same, event-same, rows_same, event-done}
 use Rattle.calls.proofs.register.Seats.{event-tally}
-use Rattle.calls.proofs.Zero.{zero-is}
 
 -- The calls of a number, alone: the number of each answer, and the calls of the site that are accepted
 

@@ -57,7 +57,7 @@ use Rattle.calls.specs.register.Register.{SameCalls, Alike, Register}
 use Rattle.calls.proofs.register.Calls.{one, stands, final}
 use Rattle.calls.proofs.register.Seats.{here, listed, shown}
 use Rattle.calls.proofs.register.Numbers.{calls-of, one_site, lone_calls, mirror, Goes, goes}
-use Rattle.calls.proofs.Zero.{zero-is}
+use Rattle.node.proofs.Answers.{zero-is}
 
 -- a load that is accepted
 module _ (m : Memory) (a : ℕ) (f : Config) (rows : List ℕ) (D : ℕ) (ws : List Window) (h : is_done (rows_answer m a f rows D ws) ≡ true)

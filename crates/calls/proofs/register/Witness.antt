@@ -67,7 +67,7 @@ use Rattle.calls.specs.register.Register.{stands_for, timed_at, accepted, SameCa
 use Rattle.calls.proofs.register.Seats.{plain_event, event-same, event-tally}
 use Rattle.calls.proofs.register.Numbers.{mirror}
 use Rattle.calls.proofs.register.Theorem.{went, alone}
-use Rattle.calls.proofs.Zero.{zero-is}
+use Rattle.node.proofs.Answers.{zero-is}
 
 -- A loaded site is written in its own words and bytes
 

@@ -10,7 +10,7 @@ use lib.Bits
 use lib.Bits.{or_lt}
 use lib.Pow.{pow-lt}
 use lib.Dec.{eqb, leb, ltb}
-use lib.ListN.{length, get_or, drop, get_or-eq_default}
+use lib.ListN.{length, get_or, drop, replicate, get_or-eq_default}
 use lib.Seq.{ext_get_or, get_or_at, drop-cons}
 use Rattle.words.specs.Bits.{has_bit, is_in, word_of, with_bit}
 use Rattle.words.proofs.Tests.{by-test, same_or_not, both, or-back, hit}
@@ -136,3 +136,20 @@ module _ (p : ℕ → Bool) where
   self-with (suc k) =
       let e : suc k - 1 ≡ k = omega arith in
       hit (ltb 0 (suc k)) _ _ (lt-ltb 0 (suc k) (omega arith)) ∙ ap (with_bit (word_of 32 p)) e ∙ one-with k
+
+-- a counter under a bound of 0 or 255
+pub left_below : (x : ℕ) (t : Bool) → x < cond t 0 255 → x ≡ cond t 0 x
+left_below x true h = absurd (omega (arith, h))
+left_below x false h = refl
+
+pub left-top : (x : ℕ) (t : Bool) → x ≤ 255 → cond t 0 255 ≤ x → cond t 0 255 ≡ cond t 0 x
+left-top x true b h = refl
+left-top x false b h = omega arith
+
+-- the counters as the next round begins
+pub kept-tab : (counters : List ℕ) (t : Bool) → length counters ≡ 32 → tab 32 (λ i. cond t 0 (get_or counters i 0))
+    ≡ cond t (replicate 32 0) counters
+unfolding tab
+kept-tab counters true h = refl
+kept-tab counters false h = ext_get_or 0 _ counters (length-tab 32 (λ i. get_or counters i 0) ∙ sym h)
+    (λ i l. get_d-tab 0 32 (λ i. get_or counters i 0) i (let m = length-tab 32 (λ i. get_or counters i 0) in omega arith))

@@ -30,7 +30,7 @@ use Rattle.machine.specs.Acts.{no_node_at}
 use Rattle.machine.specs.Layout.{Store, store, bytes_size, too_short, up_in, phase_in, config_in, site_in}
 use Rattle.machine.proofs.Seats.{config-are}
 use Rattle.machine.proofs.Whole.{enough, long-enough, as-header, at_place, live-read, stored-read}
-use Rattle.node.proofs.Answers.{done-is}
+use Rattle.node.proofs.Answers.{done-is, answered-err, answered-ok}
 use Rattle.machine.specs.Loading.{header_read, member_read}
 use Rattle.windows.specs.declared.Window.{Window}
 use Rattle.machine.specs.timed.Timed.{first_epoch}
@@ -39,7 +39,6 @@ use Rattle.machine.specs.declared.Day.{Day}
 use Rattle.machine.proofs.timed.Stored.{as-begun}
 use Rattle.node.specs.declared.Refusal.{Refusal}
 use Rattle.std.specs.Prelude.{Result, Ok, Err}
-use Rattle.machine.proofs.Refused.{answered-err, answered-ok}
 use Rattle.tally.specs.Counting.{first_tally}
 use Rattle.tally.specs.declared.Tally.{Tally}
 use Rattle.machine.specs.combined.Kept.{Kept}

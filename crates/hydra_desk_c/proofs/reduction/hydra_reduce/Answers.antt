@@ -1,7 +1,7 @@
 -- An answer's number is 0 where it is done alone.
 use mathlib.Core.Path.{sym, ap, ◌∙◌}
 use Rattle.node.specs.Answers.{number}
-use Rattle.machine.proofs.Refused.{zero-done}
+use Rattle.node.proofs.Answers.{zero-done}
 use Rattle.hydra_desk_c.proofs.reduction.hydra_reduce.Goals as goal
 
 pub returns : goal.returns

@@ -11,7 +11,8 @@ use Rattle.wire.specs.Reads.{packet_answer, part_of}
 use Rattle.site.specs.Answers.{is_packet}
 use Rattle.site.specs.declared.SiteHeader.{SiteHeader}
 use Rattle.site.specs.Members.{member_at}
-use Rattle.machine.proofs.Refused.{handed, answered-err, answered-ok}
+use Rattle.machine.proofs.Refused.{handed}
+use Rattle.node.proofs.Answers.{answered-err, answered-ok}
 use Rattle.machine.proofs.answers.heard_answer.Goals as goal
 
 pub returns-in_err-ready : goal.returns-in_err-ready

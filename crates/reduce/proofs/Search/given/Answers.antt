@@ -3,5 +3,5 @@ use Rattle.reduce.proofs.Search.given.Goals as goal
 
 pub returns : goal.returns
 returns c =
-    let r = c.load-run.ensures in
+    let r = c.load.ensures in
     first-gives _ _ _ _ _ _ r.at r.state _ c.gives.ensures

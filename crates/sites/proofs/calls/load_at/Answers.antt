@@ -4,9 +4,9 @@ use native.Mathlib.Omega.{arith}
 use lib.ListN.{length}
 use lib.Seq.{length-take-le}
 use Rattle.words.proofs.Tests.{hit, skip}
-use Rattle.machine.proofs.Refused.{handed, answered-ok, answered-err}
+use Rattle.machine.proofs.Refused.{handed}
+use Rattle.node.proofs.Answers.{answered-ok, answered-err, done-is}
 use Rattle.node.specs.Answers.{is_done}
-use Rattle.node.proofs.Answers.{done-is}
 use Rattle.machine.specs.Layout.{Store, store, words_size, bytes_size, site_in}
 use Rattle.machine.specs.timed.Stored.{stored_load_answer, stored_load, timed_loaded_store, timed_loaded_site}
 use Rattle.group.specs.Places.{top_places, freed}
