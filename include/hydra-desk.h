@@ -141,7 +141,7 @@ HYDRA_ANSWER hydra_site_load(uint32_t *words, size_t words_length, uint8_t *byte
  * Every call is lent the same windows as the load, or others: they hold for the site's day. Only
  * an end gives demands: one that begins an epoch gives those of that epoch. Any other event only
  * tests the windows, and without them does the same (tests/c/machine.c): lend it none, since to
- * copy and test 64 windows takes about as long as the event.
+ * test 64 windows takes about as long as the event.
  * The tally breaks the rules with more than 100,000 epochs, a node's held epochs above the
  * epochs, its slots above 80 times its held epochs, or a total that is not the sum of the slots.
  * An accepted end of an epoch's last round counts one epoch more, with the schedules after the
