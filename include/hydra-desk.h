@@ -55,7 +55,7 @@ HYDRA_ANSWER hydra_why(const uint8_t *script, size_t script_length, uint32_t par
  * HYDRA_NO_ROOM for a script above 40,000 bytes or an output shorter than the script, for any
  * number; then HYDRA_NOT_GIVEN for a number that the script does not give. After these no byte
  * changes, nor does *length. The script is run with a day of 1, no windows and a packet area of
- * the call's own. It needs some 160 kB of stack. */
+ * the call's own. It needs some 118 kB of stack. */
 HYDRA_ANSWER hydra_reduce(const uint8_t *script, size_t script_length, uint8_t *out,
                           size_t out_length, uint32_t *length, uint32_t number);
 
