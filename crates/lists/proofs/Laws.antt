@@ -2,7 +2,6 @@
 -- Assumes nothing.
 use mathlib.Core.Path.{◌≡◌, refl, sym, ap, ap₂, ◌∙◌}
 use mathlib.Core.Bool.{Bool, true, false, ◌&&◌, and-false}
-use lib.Pointwise.{pointwise}
 use mathlib.Core.List.{List, [], ◌∷◌, ◌++◌, append_assoc, append-nil}
 use Prim.Native.Nat.{ℕ, zero, suc, min, ◌+◌, ◌-◌, ◌*◌, ◌/◌, ◌%◌, ◌≤◌, ◌<◌}
 use native.Mathlib.Omega.{arith}
@@ -249,14 +248,6 @@ same-all s t l = go (all_below (length s) p) (same s t) refl refl
         let q : s ≡ t = same-eq s t f in
         all-make (length s) p (λ i k. eq-eqb (get_or s i 0) (get_or t i 0) (ap (λ (u : List ℕ). get_or u i 0) q)) ∙ sym f
     go false false e f = e ∙ sym f
-
--- as std compares two lists
-pub same_pointwise : (s t : List ℕ) → pointwise eqb s t ≡ same s t
-unfolding same
-same_pointwise [] [] = refl
-same_pointwise [] (y ∷ t) = refl
-same_pointwise (x ∷ s) [] = refl
-same_pointwise (x ∷ s) (y ∷ t) = ap (λ (b : Bool). eqb x y && b) (same_pointwise s t)
 
 -- a front that ends with the list
 pub cut : (l : List ℕ) (m k : ℕ) → k ≡ min m (length l) → (take k l ≡ take m l) × (drop k l ≡ drop m l)

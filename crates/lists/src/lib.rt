@@ -74,11 +74,18 @@ pub fn short(s: &[u8], at: u32) -> [u8; 32]
 }
 
 // Whether two slices have the same bytes.
-#[tactic(auto, using(crate::proofs::Laws::same_pointwise))]
 pub fn equal(s: &[u8], t: &[u8]) -> bool
     ensures { result ≡ same s.now t.now }
 {
-    s == t
+    if s.len() != t.len() {
+        return false;
+    }
+    let mut ok = true;
+    // Kept: no early return, so that many bytes are compared at once; `==` is a call, which compares one group of bytes after the other.
+    for (i, x) in s.iter().enumerate() {
+        ok &= *x == t[i];
+    }
+    ok
 }
 
 // Whether each byte is at most the top. No early return, so that the loop tests many bytes at once.

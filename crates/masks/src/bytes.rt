@@ -41,13 +41,10 @@ pub(crate) fn short_word(s: &[u8], i: usize) -> u16
     u16::from_be_bytes(part(s, i))
 }
 
-// How many slots two words have. Most nodes of a small site have none.
+// How many slots two words have.
 pub(crate) fn ones(low: u64, high: u16) -> u32
     ensures { result ≡ Count.ones low + Count.ones high }
 {
-    if (low == 0) & (high == 0) {
-        return 0;
-    }
     u64::count_ones(low) + u16::count_ones(high)
 }
 

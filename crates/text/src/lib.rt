@@ -1,10 +1,14 @@
 // Bytes as text: a separator found, numbers read and written in decimal.
 #![tactic(auto)]
 
-ghost use Rattle.std.specs.Prelude.{◌≡◌, ◌==◌, [], ◌∷◌, ◌≤◌, ◌+◌, length, position};
+ghost use Rattle.std.specs.Prelude.{◌≡◌, ◌==◌, [], ◌∷◌, ◌≤◌, ◌+◌, length, position, not, eqb, get_or, drop};
+ghost use Rattle.lists.specs.All.{all_below};
 ghost use Rattle.lists.specs.Bytes.{written, Tried};
 ghost use Rattle.text.specs.Read.{before, number_of};
 ghost use Rattle.text.specs.Write.{decimal};
+
+// So far a byte is looked for one by one; event lines are shorter.
+const NEAR: usize = 32;
 
 // Where the first c stands.
 fn place(s: &[u8], c: u8) -> Option<usize>
@@ -13,12 +17,54 @@ fn place(s: &[u8], c: u8) -> Option<usize>
     s.iter().position(|b| *b == c)
 }
 
-// How many bytes stand before the first c: all of them where there is none.
+// Whether none of 16 bytes is c. No early return, so that all are compared at once.
+fn lacks(block: &[u8; 16], c: u8) -> bool
+    ensures { result ≡ all_below 16 (λ i. not (eqb (get_or block.now i 0) c)) }
+{
+    let mut ok = true;
+    for b in block {
+        ok &= *b != c;
+    }
+    ok
+}
+
+// How many bytes at the front are passed over: blocks of 16 without a c.
+fn passed(s: &[u8], c: u8) -> usize
+    ensures value { before c s.now ≡ result + before c (drop result s.now) }
+    ensures within { result ≤ length s.now }
+{
+    let (blocks, _) = s.as_chunks::<16>();
+    let mut n = 0;
+    for block in blocks {
+        if !lacks(block, c) {
+            return n;
+        }
+        n += 16;
+    }
+    n
+}
+
+// How many bytes stand before the first c, where that may be many: blocks are passed over. Apart, so that `find` stays small where it is called.
+#[inline(never)]
+fn far(s: &[u8], c: u8) -> usize
+    ensures value { result ≡ before c s.now }
+    ensures within { result ≤ length s.now }
+{
+    let n = passed(s, c);
+    n + place(&s[n..], c).unwrap_or(s.len() - n)
+}
+
+// How many bytes stand before the first c: all of them where there is none. It is looked for near the front first, where lines have it.
 pub fn find(s: &[u8], c: u8) -> usize
     ensures value { result ≡ before c s.now }
     ensures within { result ≤ length s.now }
 {
-    place(s, c).unwrap_or(s.len())
+    let (front, rest) = s.split_at(s.len().min(NEAR));
+    let n = place(front, c).unwrap_or(front.len());
+    if n < front.len() {
+        return n;
+    }
+    n + far(rest, c)
 }
 
 // A decimal number without leading zeros, at most 4,294,967,295; nothing for anything else.
